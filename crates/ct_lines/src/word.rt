@@ -1,0 +1,64 @@
+ghost use Rattle.std.specs.Prelude.{◌≡◌, ◌<◌, ◌≤◌, ◌^◌, IfSome};
+ghost use Rattle.std.specs.Option.{option_copied};
+ghost use Rattle.ct_lines.specs.Words.{numeral_of, number_of, hexadecimal_of, entry_of, name_of};
+
+/// The number that at most `most` digits of the radix write.
+fn read_numeral(word: &[u8], radix: u32, most: usize) -> Option<u64>
+    requires lower_radix { 2 ≤ radix }
+    requires upper_radix { radix ≤ 16 }
+    requires short { most ≤ 10 }
+    ensures value { result ≡ numeral_of radix most word.now }
+    ensures below { IfSome result (λ value. value < radix ^ most) }
+{
+    if word.is_empty() || word.len() > most {
+        return None;
+    }
+    let mut value: u64 = 0;
+    for byte in word {
+        let digit = char::from(*byte).to_digit(radix)?;
+        value = value * u64::from(radix) + u64::from(digit);
+    }
+    Some(value)
+}
+
+/// The number of a number word within a range.
+pub fn read_number(word: &str, low: u32, high: u32) -> Option<u32>
+    ensures value { result ≡ number_of low high word.now }
+    ensures within { IfSome result (λ number. (low ≤ number) × (number ≤ high)) }
+{
+    let value = read_numeral(word.as_bytes(), 10, 10)?;
+    if value < u64::from(low) || u64::from(high) < value {
+        return None;
+    }
+    Some(value as u32)
+}
+
+/// The number of a hexadecimal word.
+fn read_hexadecimal(word: &str) -> Option<u32>
+    ensures { result ≡ hexadecimal_of word.now }
+{
+    let digits = word.as_bytes().strip_prefix(b"0x")?;
+    let value = read_numeral(digits, 16, 8)?;
+    Some(value as u32)
+}
+
+/// The address of an entry word.
+pub fn read_entry(word: &str) -> Option<u32>
+    ensures { result ≡ entry_of word.now }
+{
+    match read_number(word, 0, u32::MAX) {
+        Some(entry) => Some(entry),
+        None => read_hexadecimal(word),
+    }
+}
+
+/// The name of a name word.
+pub fn read_name(word: &str) -> Option<&str>
+    ensures { option_copied result ≡ name_of word.now }
+{
+    if word.is_empty() || word.as_bytes().starts_with(b"-") {
+        None
+    } else {
+        Some(word)
+    }
+}

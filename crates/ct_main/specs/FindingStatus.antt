@@ -1,0 +1,9 @@
+-- The exit status of a whole report.
+use Rattle.std.specs.Prelude.{ℕ}
+use Rattle.ct_report.specs.declared.finding.Finding.{Finding}
+use Rattle.ct_report.specs.declared.finding.Finding.TheVariants.{Secure, Insecure}
+
+-- 0 for secure, 1 for insecure
+abbrev pub finding_status : Finding → ℕ
+finding_status Secure = 0
+finding_status Insecure = 1

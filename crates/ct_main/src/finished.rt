@@ -1,0 +1,57 @@
+ghost use Rattle.std.specs.Prelude.{◌≡◌, None, Some};
+ghost use Rattle.ct_main.specs.FindingStatus.{finding_status as finding_code};
+
+use crate::refusal::Refusal;
+use ct_pairs::ByteTable;
+use ct_report::{Finding, verdict_of};
+
+/// How a call of the program ended.
+#[derive(Debug, Drop)]
+pub struct Finished {
+    /// The exit status: 0 secure, 1 insecure, and from 64 on a refusal's.
+    pub status: u8,
+    /// What the check found, where it ran to its end.
+    pub table: Option<ByteTable>,
+    /// Why no whole report was written, if none was.
+    pub refusal: Option<Refusal>,
+}
+
+impl Finished {
+    ghost use Rattle.ct_main.specs.Status.{refusal_status, status_of};
+
+    /// The end of a call that ran no check.
+    pub fn refused(refusal: Refusal) -> Self
+        ensures { result ≡ record { status = refusal_status refusal; table = None; refusal = Some refusal } }
+    {
+        Finished {
+            status: refusal.status(),
+            table: None,
+            refusal: Some(refusal),
+        }
+    }
+
+    /// The end of a call that ran a check.
+    pub fn checked(table: ByteTable, refusal: Option<Refusal>) -> Self
+        ensures { result ≡ record { status = status_of (Some table) refusal; table = Some table; refusal = refusal } }
+    {
+        let status = match refusal {
+            Some(refusal) => refusal.status(),
+            None => finding_status(verdict_of(&table)),
+        };
+        Finished {
+            status,
+            table: Some(table),
+            refusal,
+        }
+    }
+}
+
+/// The exit status of a check whose whole report was written.
+fn finding_status(finding: Finding) -> u8
+    ensures { result ≡ finding_code finding }
+{
+    match finding {
+        Finding::Secure => 0,
+        Finding::Insecure => 1,
+    }
+}

@@ -1,0 +1,76 @@
+ghost use Rattle.std.specs.Prelude.{◌≡◌, ◌≤◌, length, map};
+ghost use Rattle.std.specs.String.{string_bytes};
+ghost use Rattle.ct_lines.specs.Commands.{command_of};
+ghost use Rattle.ct_main.specs.Status.{status_of};
+ghost use Rattle.ct_main.specs.Causes.{Asks};
+ghost use Rattle.ct_main.specs.Answer.{IsAnswer};
+
+use crate::finished::Finished;
+use crate::job_file::job_of;
+use crate::refusal::Refusal;
+use crate::report_out::write_report;
+use ct_lines::{Command, WordsRefusal, read_words};
+use ct_outside::{ReadEnd, Shelf, Sink, read_all};
+use ct_pairs::byte_check;
+use std::alloc::Global;
+
+/// Runs the program on the words after its name.
+///
+/// It reads the file that the words name, checks the routine, makes the whole report and then
+/// writes it; what it answers is the status to end with, the check's table, and the refusal to
+/// print. Its time and its memory are those of `byte_check`, beside the file and the report.
+pub fn ctrel<F: Shelf, S: Sink>(
+    alloc: Global,
+    words: &[String],
+    shelf: &mut F,
+    out: &mut S,
+) -> Finished
+    requires { length (F.asked shelf.old) ≤ 12 }
+    ensures answer { IsAnswer
+        (command_of (map string_bytes words.now))
+        (record {
+          files = F.files shelf.old;
+          given = F.given shelf.new;
+          faults_before = F.faults shelf.old;
+          faults_after = F.faults shelf.new;
+        })
+        (record {
+          sure = S.sure out.old;
+          faults_before = S.faults out.old;
+          faults_after = S.faults out.new;
+          before = S.written out.old;
+          after = S.written out.new;
+        })
+        result.table result.refusal }
+    ensures asks { Asks
+        (command_of (map string_bytes words.now))
+        (F.asked shelf.old) (F.asked shelf.new) result.refusal }
+    ensures status { result.status ≡ status_of result.table result.refusal }
+{
+    let command = match read_words(alloc, words) {
+        Ok(command) => command,
+        Err(WordsRefusal::Memory) => return Finished::refused(Refusal::Memory),
+        Err(WordsRefusal::Refused) => return Finished::refused(Refusal::Words),
+    };
+    let Command::Byte {
+        binary,
+        entry,
+        bound,
+    } = command;
+    let bytes = match read_all(alloc, shelf, binary.into_string()) {
+        Ok(bytes) => bytes,
+        Err(ReadEnd::Memory) => return Finished::refused(Refusal::Memory),
+        Err(ReadEnd::Fault) => return Finished::refused(Refusal::ReadFault),
+        Err(ReadEnd::Long) => return Finished::refused(Refusal::Long),
+    };
+    let job = match job_of(alloc, bytes.as_slice(), entry, bound) {
+        Ok(job) => job,
+        Err(refusal) => return Finished::refused(refusal),
+    };
+    let table = match byte_check(alloc, &job) {
+        Ok(table) => table,
+        Err(_) => return Finished::refused(Refusal::Memory),
+    };
+    let refusal = write_report(alloc, &job, &table, out);
+    Finished::checked(table, refusal)
+}

@@ -1,0 +1,60 @@
+ghost use Rattle.std.specs.Prelude.{◌≡◌};
+ghost use Rattle.ct_main.specs.declared.refusal.Refusal.TheVariants.{Memory};
+
+use elf_load::ElfRefusal;
+use std::alloc::AllocError;
+use thiserror::Error;
+
+/// Why the program wrote no report, or not the whole of one. As text it is the line on standard
+/// error, without the program's name.
+#[derive(Clone, Copy, Debug, PartialEq, Eq, Error)]
+pub enum Refusal {
+    /// The words are no command.
+    #[error("words")]
+    Words,
+    /// The file is no executable that is read here.
+    #[error("elf")]
+    Elf(ElfRefusal),
+    /// No instruction can be fetched at the entry.
+    #[error("policy P10")]
+    Entry,
+    /// The file has more than 2^26 bytes.
+    #[error("long")]
+    Long,
+    /// There was no memory.
+    #[error("memory")]
+    Memory,
+    /// The file isn't there, or reading it failed.
+    #[error("read")]
+    ReadFault,
+    /// The output failed; what it took is a front of the report.
+    #[error("write")]
+    WriteFault,
+}
+
+impl Refusal {
+    ghost use Rattle.ct_main.specs.Status.{refusal_status};
+
+    /// The program's exit status.
+    pub fn status(self) -> u8
+        ensures { result ≡ refusal_status self }
+    {
+        match self {
+            Refusal::Words => 64,
+            Refusal::Elf(_) => 65,
+            Refusal::Entry => 66,
+            Refusal::Long => 67,
+            Refusal::Memory => 70,
+            Refusal::ReadFault => 74,
+            Refusal::WriteFault => 75,
+        }
+    }
+}
+
+impl From<AllocError> for Refusal {
+    ghost from_gives = { λ _ refusal. refusal ≡ Memory };
+
+    fn from(_: AllocError) -> Self {
+        Refusal::Memory
+    }
+}

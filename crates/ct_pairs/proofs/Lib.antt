@@ -1,0 +1,10 @@
+pub mod DifferentLemmas
+pub mod LeakLemmas
+pub mod MachineLemmas
+pub mod PathLemmas
+pub mod SiteLemmas
+pub mod SplitLemmas
+pub mod StartLemmas
+pub mod SurveyLemmas
+pub mod TrailLemmas
+pub mod ValuesLemmas

@@ -1,0 +1,15 @@
+pub mod ByteJob
+pub mod Covered
+pub mod Different
+pub mod Inputs
+pub mod Leak
+pub mod LeastPair
+pub mod Limits
+pub mod Pair
+pub mod Paths
+pub mod Runs
+pub mod Sites
+pub mod Split
+pub mod Start
+pub mod Survey
+pub mod Values

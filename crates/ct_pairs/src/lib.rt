@@ -1,0 +1,38 @@
+//! Jobs, pairs of starts that agree on public inputs, where their runs first split, and the check of
+//! all pairs of one secret byte.
+#![tactic(auto)]
+
+mod byte_jobs;
+mod byte_table;
+mod checking;
+mod found;
+mod input_byte;
+mod job;
+mod laws;
+mod leak;
+mod listing;
+mod noting;
+mod pair;
+mod place;
+mod placing;
+mod runs;
+mod split;
+mod splitting;
+mod starting;
+mod survey;
+
+pub use byte_jobs::byte_job;
+pub use byte_table::ByteTable;
+pub use checking::byte_check;
+pub use found::Found;
+pub use input_byte::InputByte;
+pub use job::Job;
+pub use laws::{path_count_law, split_law};
+pub use pair::Pair;
+pub use place::Place;
+pub use split::Split;
+pub use splitting::first_split;
+pub use starting::starts;
+
+#[cfg(test)]
+mod tests;

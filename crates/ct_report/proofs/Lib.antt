@@ -1,0 +1,2 @@
+pub mod SiteLine
+pub mod SiteKinds

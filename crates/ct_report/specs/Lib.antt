@@ -1,0 +1,4 @@
+pub mod Digits
+pub mod Kind
+pub mod Lines
+pub mod Report

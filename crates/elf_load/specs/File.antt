@@ -1,0 +1,159 @@
+-- ELF32 executables, little-endian, by the fields and rules of the System V ABI and the RISC-V psABI.
+use Rattle.std.specs.Prelude.{ℕ, zero, suc, ◌+◌, ◌*◌, ◌^◌, ◌%◌, min, max, nat_eq, nat_lt, nat_le, ◌==◌, Bool, not, ◌&&◌, ◌||◌, if◌then◌else◌, List, [], ◌∷◌, length, drop, Option, Some, None, sum_by, position, is_none}
+use Rattle.std.specs.List.{list_any, starts_with}
+use Rattle.byteorder.specs.Endian.{little_number}
+use Rattle.elf_load.specs.declared.file_header.FileHeader.{FileHeader}
+use Rattle.elf_load.specs.declared.program_header.ProgramHeader.{ProgramHeader}
+
+-- the number of so many bytes at an offset, the least byte first
+abbrev pub number_at : ℕ → ℕ → List ℕ → ℕ
+number_at count offset bytes = little_number count (drop offset bytes)
+
+-- the ELF header, each field at its offset
+unfoldable pub file_header : List ℕ → FileHeader
+file_header bytes = record {
+  class = number_at 1 4 bytes;
+  order = number_at 1 5 bytes;
+  identity_version = number_at 1 6 bytes;
+  kind = number_at 2 16 bytes;
+  machine = number_at 2 18 bytes;
+  version = number_at 4 20 bytes;
+  entry = number_at 4 24 bytes;
+  program_table = number_at 4 28 bytes;
+  flags = number_at 4 36 bytes;
+  program_entry_size = number_at 2 42 bytes;
+  program_count = number_at 2 44 bytes;
+}
+
+-- the program header at an offset of the file
+unfoldable pub program_header : ℕ → List ℕ → ProgramHeader
+program_header offset bytes = record {
+  kind = number_at 4 offset bytes;
+  offset = number_at 4 (offset + 4) bytes;
+  address = number_at 4 (offset + 8) bytes;
+  file_size = number_at 4 (offset + 16) bytes;
+  memory_size = number_at 4 (offset + 20) bytes;
+  flags = number_at 4 (offset + 24) bytes;
+}
+
+-- so many program headers of 32 bytes, from an offset on
+unfoldable pub headers_from : ℕ → ℕ → List ℕ → List ProgramHeader
+headers_from zero offset bytes = []
+headers_from (suc count) offset bytes = program_header offset bytes ∷ headers_from count (offset + 32) bytes
+
+-- the program header table
+unfoldable pub program_headers : List ℕ → List ProgramHeader
+program_headers bytes = headers_from (file_header bytes).program_count (file_header bytes).program_table bytes
+
+-- E1: there are at least the 52 bytes of the ELF header
+abbrev pub has_header : List ℕ → Bool
+has_header bytes = nat_le 52 (length bytes)
+
+-- E2: the file begins with the magic number
+abbrev pub has_magic : List ℕ → Bool
+has_magic bytes = starts_with nat_eq bytes (0x7f ∷ 0x45 ∷ 0x4c ∷ 0x46 ∷ [])
+
+-- E3: it is for 32 bits
+abbrev pub is_32_bit : FileHeader → Bool
+is_32_bit header = header.class == 1
+
+-- E4: its numbers are little-endian
+abbrev pub is_little_endian : FileHeader → Bool
+is_little_endian header = header.order == 1
+
+-- E5: both versions are 1
+abbrev pub is_current_version : FileHeader → Bool
+is_current_version header = header.identity_version == 1 && header.version == 1
+
+-- E6: it is an executable file
+abbrev pub is_executable_file : FileHeader → Bool
+is_executable_file header = header.kind == 2
+
+-- E7: it is for RISC-V
+abbrev pub is_for_riscv : FileHeader → Bool
+is_for_riscv header = header.machine == 243
+
+-- E8: it has no compressed instructions
+abbrev pub is_uncompressed : FileHeader → Bool
+is_uncompressed header = header.flags % 2 == 0
+
+-- E9: there are 1 to 64 program headers of 32 bytes, all within the file, which has so many bytes
+abbrev pub has_program_table : ℕ → FileHeader → Bool
+has_program_table size header =
+    (nat_le 1 header.program_count && nat_le header.program_count 64)
+    && (header.program_entry_size == 32 && nat_le (header.program_table + 32 * header.program_count) size)
+
+-- E10: no program header asks for dynamic linking or for an interpreter
+abbrev pub is_static : List ProgramHeader → Bool
+is_static headers = not (list_any (λ header. header.kind == 2 || header.kind == 3) headers)
+
+-- a program header of type PT_LOAD
+abbrev pub is_load : ProgramHeader → Bool
+is_load header = header.kind == 1
+
+-- a segment's bytes are within the file, which has so many bytes, and within memory
+abbrev pub is_within : ℕ → ProgramHeader → Bool
+is_within size header =
+    nat_le header.file_size header.memory_size
+    && ((header.file_size == 0 || nat_le (header.offset + header.file_size) size)
+    && nat_le (header.address + header.memory_size) (2 ^ 32))
+
+-- E11: the first program header, by its index in the table, whose segment is not within file and memory
+unfoldable pub first_misplaced : ℕ → List ProgramHeader → Option ℕ
+first_misplaced size headers = position (λ header. is_load header && not (is_within size header)) headers
+
+-- two segments share an address
+abbrev pub share_address : ProgramHeader → ProgramHeader → Bool
+share_address left right =
+    is_load left
+    && (is_load right
+    && nat_lt (max left.address right.address) (min (left.address + left.memory_size) (right.address + right.memory_size)))
+
+-- the first pair, by the indices in the table, of which the first has at least this index
+unfoldable pub first_overlap_from : ℕ → List ProgramHeader → Option (ℕ × ℕ)
+first_overlap_from index [] = None
+first_overlap_from index (header ∷ headers) =
+    pair_or (position (share_address header) headers) (first_overlap_from (index + 1) headers)
+  where
+    pair_or : Option ℕ → Option (ℕ × ℕ) → Option (ℕ × ℕ)
+    pair_or None later = later
+    pair_or (Some distance) later = Some (index, index + 1 + distance)
+
+-- E12: the first two program headers whose segments share an address
+unfoldable pub first_overlap : List ProgramHeader → Option (ℕ × ℕ)
+first_overlap headers = first_overlap_from 0 headers
+
+-- the bytes that a program header loads
+abbrev pub loaded_size : ProgramHeader → ℕ
+loaded_size header = if is_load header then header.memory_size else 0
+
+-- E13: all segments together have at most 2^24 bytes
+abbrev pub has_small_memory : List ProgramHeader → Bool
+has_small_memory headers = nat_le (sum_by loaded_size headers) (2 ^ 24)
+
+-- E3 to E8
+abbrev pub is_riscv_executable : FileHeader → Bool
+is_riscv_executable header =
+    is_32_bit header
+    && (is_little_endian header
+    && (is_current_version header
+    && (is_executable_file header
+    && (is_for_riscv header
+    && is_uncompressed header))))
+
+-- E10 to E13, of a file of so many bytes
+abbrev pub has_sound_segments : ℕ → List ProgramHeader → Bool
+has_sound_segments size headers =
+    is_static headers
+    && (is_none (first_misplaced size headers)
+    && (is_none (first_overlap headers)
+    && has_small_memory headers))
+
+-- E1 to E13
+abbrev pub meets_rules : List ℕ → Bool
+meets_rules bytes =
+    has_header bytes
+    && (has_magic bytes
+    && (is_riscv_executable (file_header bytes)
+    && (has_program_table (length bytes) (file_header bytes)
+    && has_sound_segments (length bytes) (program_headers bytes))))

@@ -1,0 +1,4 @@
+pub mod Checking
+pub mod File
+pub mod Layout
+pub mod Narrow

@@ -1,0 +1,4 @@
+pub mod Ranges
+pub mod Hex
+pub mod Agreement
+pub mod Words

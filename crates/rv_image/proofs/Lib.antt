@@ -1,0 +1,10 @@
+pub mod Runs
+pub mod Spans
+pub mod Ascending
+pub mod Halving
+pub mod Laws
+pub mod Ordering
+pub mod Putting
+pub mod Fetching
+pub mod Covering
+pub mod Laying

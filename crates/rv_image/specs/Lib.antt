@@ -1,0 +1,7 @@
+pub mod Cell
+pub mod Image
+pub mod Loading
+pub mod Part
+pub mod Place
+pub mod Ranges
+pub mod View

@@ -1,0 +1,251 @@
+ghost use Rattle.std.specs.Prelude.{◌≡◌, ◌<◌, ◌≤◌, ◌^◌, false, IfOk, IfSome, MatchOption, None, All};
+ghost use Rattle.std.specs.List.{flat_map};
+ghost use Rattle.rv_image.specs.Image.{IsImage, cell_at, readable_at, writable_at, loaded_at, index_at, executable_at, fetch_at, size_of, bytes_of};
+ghost use Rattle.rv_image.specs.Loading.{CanBuild, cells_of, part_cells};
+ghost use Rattle.rv_image.specs.Place.{IsExecutable};
+ghost use Rattle.rv_image.specs.Ranges.{rights_of, rights_in};
+ghost use Rattle.rv_image.specs.View.{LiesFrom, total};
+
+use crate::part::Part;
+use crate::place::Place;
+use crate::span::Span;
+use elf_load::Elf;
+use std::alloc::{AllocError, Global};
+use std::marker::Model;
+
+/// The accessible memory of a program as it is loaded.
+///
+/// An image is seen as the list of its accessible addresses in ascending order.
+#[derive(Debug, Drop)]
+pub struct Image {
+    spans: Vec<Span>,
+    starts: Vec<u32>,
+    bytes: Vec<u8>,
+}
+
+impl Model for Image {
+    ghost use Rattle.std.specs.Prelude.{List};
+    ghost use Rattle.rv_image.specs.Cell.{Cell};
+
+    ghost Value = { List Cell };
+
+    ghost use Rattle.rv_image.specs.View.{cells_in, IsLaidOut};
+
+    ghost view = { λ image. cells_in image.spans.items image.bytes.items };
+
+    ghost invariant = { λ image. IsLaidOut image.spans.items image.starts.items image.bytes.items };
+}
+
+impl Image {
+    ghost use Rattle.rv_image.specs.Place.{IsPlace};
+    ghost use Rattle.rv_image.specs.Part.{part_segments, part_spans};
+
+    /// The image of an executable and of extra spans, which hold zeros.
+    pub fn build(alloc: Global, elf: &Elf, extra: &[Span]) -> Result<Image, AllocError>
+        requires { CanBuild elf.now extra.now }
+        ensures { IfOk result (λ image. image ≡ cells_of elf.now extra.now) }
+    {
+        let parts = Part::ordered(alloc, elf, extra)?;
+        Image::lay_out(alloc, &parts)
+    }
+
+    /// Whether the byte at an address may be loaded.
+    #[tactic(auto, unfolding(crate::specs::Image::readable_at))]
+    pub fn readable(&self, address: u32) -> bool
+        ensures { result ≡ readable_at self.now address }
+    {
+        match self.place(address) {
+            Some(place) => place.span.read,
+            None => false,
+        }
+    }
+
+    /// Whether the byte at an address may be stored to.
+    #[tactic(auto, unfolding(crate::specs::Image::writable_at))]
+    pub fn writable(&self, address: u32) -> bool
+        ensures { result ≡ writable_at self.now address }
+    {
+        match self.place(address) {
+            Some(place) => place.span.write,
+            None => false,
+        }
+    }
+
+    /// The byte that is loaded at an address, if the address is accessible.
+    #[tactic(auto, unfolding(crate::specs::Image::loaded_at))]
+    pub fn loaded(&self, address: u32) -> Option<u8>
+        ensures { result ≡ loaded_at self.now address }
+    {
+        match self.place(address) {
+            Some(place) => Some(place.byte),
+            None => None,
+        }
+    }
+
+    /// The number of accessible bytes at lower addresses, if the address is accessible.
+    #[tactic(auto, unfolding(crate::specs::Image::index_at))]
+    pub fn index_of(&self, address: u32) -> Option<u32>
+        ensures place { result ≡ index_at self.now address }
+        ensures within { IfSome result (λ index. index < size_of self.now) }
+    {
+        match self.place(address) {
+            Some(place) => Some(place.index),
+            None => None,
+        }
+    }
+
+    /// The instruction word at a multiple of 4 whose four bytes may be executed.
+    pub fn fetch(&self, pc: u32) -> Option<u32>
+        ensures { result ≡ fetch_at self.now pc }
+    {
+        if pc % 4 != 0 {
+            return None;
+        }
+        let first = self.executable(pc)?;
+        let second = self.executable(pc + 1)?;
+        let third = self.executable(pc + 2)?;
+        let fourth = self.executable(pc + 3)?;
+        Some(u32::from_le_bytes([first, second, third, fourth]))
+    }
+
+    /// The byte at an address that may be executed.
+    #[tactic(auto, unfolding(crate::specs::Image::executable_at, crate::specs::Image::loaded_at))]
+    fn executable(&self, address: u32) -> Option<u8>
+        ensures { MatchOption result (executable_at self.now address ≡ false) (IsExecutable self.now address) }
+    {
+        match self.place(address) {
+            Some(place) => {
+                if place.span.exec {
+                    Some(place.byte)
+                } else {
+                    None
+                }
+            }
+            None => None,
+        }
+    }
+
+    /// The spans of accessible addresses in ascending order.
+    pub fn ranges(&self) -> &[Span]
+        ensures filled { All (λ span. 0 < span.length) result.now }
+        ensures cover { rights_of self.now ≡ rights_in result.now }
+    {
+        self.spans.as_slice()
+    }
+
+    /// The number of accessible bytes.
+    pub fn size(&self) -> u32
+        ensures size { result ≡ size_of self.now }
+        ensures image { IsImage self.now }
+    {
+        self.bytes.len() as u32
+    }
+
+    /// All loaded bytes, in ascending address.
+    pub fn loaded_bytes(&self, alloc: Global) -> Result<Vec<u8>, AllocError>
+        ensures { IfOk result (λ bytes. bytes.items ≡ bytes_of self.now) }
+    {
+        Vec::from_slice(alloc, &self.bytes)
+    }
+
+    /// An equal image.
+    pub fn copy(&self, alloc: Global) -> Result<Image, AllocError>
+        ensures { IfOk result (λ image. image ≡ self.now) }
+    {
+        Ok(Image {
+            spans: Vec::from_slice(alloc, &self.spans)?,
+            starts: Vec::from_slice(alloc, &self.starts)?,
+            bytes: Vec::from_slice(alloc, &self.bytes)?,
+        })
+    }
+
+    fn lay_out(alloc: Global, parts: &[Part]) -> Result<Image, AllocError>
+        requires ascending { LiesFrom 0 (part_spans parts.now) }
+        requires small { total (part_spans parts.now) ≤ 2 ^ 24 }
+        ensures { IfOk result (λ image. image ≡ flat_map part_cells (part_segments parts.now)) }
+    {
+        let mut spans = Vec::new(alloc);
+        let mut starts = Vec::new(alloc);
+        let mut bytes = Vec::new(alloc);
+        for part in parts {
+            starts.push(bytes.len() as u32)?;
+            spans.push(part.span())?;
+            part.append(&mut bytes)?;
+        }
+        Ok(Image {
+            spans,
+            starts,
+            bytes,
+        })
+    }
+
+    fn place(&self, address: u32) -> Option<Place>
+        ensures { MatchOption result (cell_at self.now address ≡ None) (IsPlace self.now address) }
+    {
+        Place::of(&self.spans, &self.starts, &self.bytes, address)
+    }
+}
+
+#[cfg(test)]
+mod tests {
+    use crate::{Image, Span};
+    use ct_rows::Row;
+    use elf_load::{Elf, Segment};
+    use std::alloc::{AllocError, Global};
+    use std::test::Fail;
+
+    // One word to read and execute, a gap, and two zeros to read and write.
+    fn two_spans(alloc: Global) -> Result<Image, AllocError> {
+        let code = Row::from_vec(Vec::from_slice(alloc, &[0x67, 0x80, 0, 0])?);
+        let mut segments = Vec::new(alloc);
+        segments.push(Segment {
+            address: 0x10054,
+            bytes: code,
+            read: true,
+            write: false,
+            exec: true,
+        })?;
+        let elf = Elf {
+            segments: Row::from_vec(segments),
+            entry: 0x10054,
+            symbols: Row::from_vec(Vec::new(alloc)),
+        };
+        let work = Span {
+            address: 0x20000,
+            length: 2,
+            read: true,
+            write: true,
+            exec: false,
+        };
+        Image::build(alloc, &elf, &[work])
+    }
+
+    #[test]
+    fn answers_at_two_spans_and_a_gap(rt: HostRuntime) -> Result<(), Fail> {
+        let image = two_spans(rt.alloc())?;
+        // Address, rights to read and to write, byte, index, instruction word.
+        let rows = [
+            (0x10053, false, false, None, None, None),
+            (0x10054, true, false, Some(0x67), Some(0), Some(0x8067)),
+            (0x10055, true, false, Some(0x80), Some(1), None),
+            (0x10057, true, false, Some(0), Some(3), None),
+            (0x10058, false, false, None, None, None),
+            (0x1ffff, false, false, None, None, None),
+            (0x20000, true, true, Some(0), Some(4), None),
+            (0x20001, true, true, Some(0), Some(5), None),
+            (0x20002, false, false, None, None, None),
+        ];
+        for (address, read, write, byte, index, word) in rows {
+            assert_eq!(rt; image.readable(address), read);
+            assert_eq!(rt; image.writable(address), write);
+            assert_eq!(rt; image.loaded(address), byte);
+            assert_eq!(rt; image.index_of(address), index);
+            assert_eq!(rt; image.fetch(address), word);
+        }
+        assert_eq!(rt; image.size(), 6);
+        assert_eq!(rt; image.ranges().len(), 2);
+        let bytes = image.copy(rt.alloc())?.loaded_bytes(rt.alloc())?;
+        assert_eq!(rt; bytes.as_slice(), [0x67, 0x80, 0, 0, 0, 0].as_slice());
+        Ok(())
+    }
+}

@@ -1,0 +1,50 @@
+ghost use Rattle.std.specs.Prelude.{◌≡◌, ◌≤◌, ◌<◌, length, MatchOption, None};
+ghost use Rattle.std.specs.List.{AllWithin};
+ghost use Rattle.rv_image.specs.View.{LiesFrom, IsLaidOut, cells_in};
+
+use crate::span::Span;
+
+/// Where an accessible address lies: in which span, and at which place among all bytes.
+#[derive(Clone, Copy)]
+pub(crate) struct Place {
+    pub span: Span,
+    pub index: u32,
+    pub byte: u8,
+}
+
+/// How many spans begin at or below the address.
+fn begun(spans: &[Span], address: u32) -> usize
+    requires { LiesFrom 0 spans.now }
+    ensures bound { result ≤ length spans.now }
+    ensures begun { AllWithin (λ span. span.address ≤ address) spans.now 0 result }
+    ensures later { AllWithin (λ span. address < span.address) spans.now result (length spans.now) }
+{
+    spans.partition_point(|span| span.address <= address)
+}
+
+impl Place {
+    ghost use Rattle.rv_image.specs.Place.{IsPlace};
+    ghost use Rattle.rv_image.specs.Image.{cell_at};
+
+    /// The place of an address, found by halving the spans.
+    pub fn of(spans: &[Span], starts: &[u32], bytes: &[u8], address: u32) -> Option<Place>
+        requires { IsLaidOut spans.now starts.now bytes.now }
+        ensures { MatchOption result (cell_at (cells_in spans.now bytes.now) address ≡ None) (IsPlace (cells_in spans.now bytes.now) address) }
+    {
+        let begun = begun(spans, address);
+        if begun == 0 {
+            return None;
+        }
+        let span = spans[begun - 1];
+        let offset = address - span.address;
+        if offset >= span.length {
+            return None;
+        }
+        let index = starts[begun - 1] + offset;
+        Some(Place {
+            span,
+            index,
+            byte: bytes[index as usize],
+        })
+    }
+}
