@@ -36,7 +36,10 @@ fn headers(size: u32) -> [u32; 21] {
 // An executable whose segment has these words.
 fn executable(alloc: Global, code: &[u32]) -> Result<Vec<u8>, AllocError> {
     let mut file = Vec::new(alloc);
-    let size = (code.len() as u32).wrapping_mul(4);
+    let mut size = 0u32;
+    for _ in code {
+        size = size.wrapping_add(4);
+    }
     for word in headers(size) {
         file.extend_from_slice(&word.to_le_bytes())?;
     }
