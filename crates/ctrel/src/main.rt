@@ -3,6 +3,7 @@
 
 ghost use Rattle.std.specs.Prelude.{◌≡◌};
 ghost use Rattle.std.specs.Process.{exit_status};
+ghost use Rattle.ct_main.specs.Status.{status_of};
 
 mod words;
 
@@ -12,7 +13,9 @@ use std::process::ExitCode;
 use words::words_of;
 
 /// Runs the program over the real files and the real output.
-fn run(rt: &HostRuntime) -> Finished {
+fn run(rt: &HostRuntime) -> Finished
+    ensures { result.status ≡ status_of result.table result.refusal }
+{
     let words = match words_of(rt) {
         Ok(words) => words,
         Err(refusal) => return Finished::refused(refusal),
