@@ -2,6 +2,7 @@
 #![tactic(auto)]
 
 mod command;
+mod run;
 mod word;
 mod words;
 mod words_refusal;

@@ -1,92 +1,73 @@
 -- Why a call of the program ends as it does, a line for each refusal.
-use Rattle.std.specs.Prelude.{◌≡◌, ◌⊎◌, ◌++◌, ℕ, true, false, List, [], ◌∷◌, All, Option, Some, None, IsSome, IsSomeAnd}
-use Rattle.elf_load.specs.declared.refusal.ElfRefusal.TheVariants.{Narrow}
-use Rattle.elf_load.specs.Narrow.{has_narrow_form, narrow_elf}
+use Rattle.std.specs.Prelude.{◌≡◌, ◌≢◌, ◌⊎◌, ◌++◌, ℕ, List, [], ◌∷◌, Option, Some, None, IfSome, IsSome, IsSomeAnd}
+use Rattle.elf_load.specs.declared.refusal.ElfRefusal.TheVariants as files
+use Rattle.elf_load.specs.File.{first_refusal}
+use Rattle.rv_image.specs.Cell.{Cell}
 use Rattle.rv_image.specs.Image.{fetch_at}
-use Rattle.rv_image.specs.Loading.{cells_of}
 use Rattle.ct_lines.specs.declared.command.Command.{Command}
-use Rattle.ct_lines.specs.declared.command.Command.TheVariants.{Byte}
-use Rattle.ct_pairs.specs.declared.job.Job.{Job}
+use Rattle.ct_lines.specs.declared.command.Command.TheVariants.{Byte, Trace, List as Listing}
+use Rattle.ct_lines.specs.Commands.{binary_of}
 use Rattle.ct_pairs.specs.declared.byte_table.ByteTable.{ByteTable}
-use Rattle.ct_pairs.specs.ByteJob.{IsByteJob}
-use Rattle.ct_pairs.specs.Sites.{AreLeakSites}
-use Rattle.ct_pairs.specs.LeastPair.{IsLeastPair}
-use Rattle.ct_pairs.specs.Paths.{path_count}
-use Rattle.ct_pairs.specs.Covered.{sites_of, CoversPairs}
-use Rattle.ct_report.specs.Report.{report_of}
 use Rattle.ct_main.specs.declared.refusal.Refusal.{Refusal}
 use Rattle.ct_main.specs.declared.refusal.Refusal.TheVariants.{Words, Elf, Entry, Long, Memory, ReadFault, WriteFault}
 use Rattle.ct_main.specs.Outside.{Reading, Writing, WasRead, WasLong, WasCutOff, WroteNothing, WroteWhole, WroteFront}
+use Rattle.ct_main.specs.Texts.{image_of, IsTableFor, IsTextOf}
 
--- the name of the file that a command reads
-abbrev pub binary_of : Command → List ℕ
-binary_of (Byte binary entry bound) = binary
+-- no instruction can be fetched where the command's run begins
+abbrev pub LacksEntry : Command → List Cell → Type 0
+LacksEntry (Byte binary entry bound) image = fetch_at image entry ≡ None
+LacksEntry (Trace binary entry bound) image = fetch_at image entry ≡ None
+LacksEntry (Listing binary) image = ⊥
 
--- the address of the routine's first instruction
-abbrev pub entry_of : Command → ℕ
-entry_of (Byte binary entry bound) = entry
+-- why a file's bytes are refused, a line for each refusal that a file can have
+abbrev pub RefusesFile : Command → List ℕ → Refusal → Type 0
+RefusesFile command bytes (Elf refusal) = (first_refusal bytes ≡ Some refusal) × (refusal ≢ files.Memory)
+RefusesFile command bytes Entry = (first_refusal bytes ≡ None) × LacksEntry command (image_of bytes)
+RefusesFile command bytes Memory = Unit {0}
+RefusesFile command bytes Words = ⊥
+RefusesFile command bytes Long = ⊥
+RefusesFile command bytes ReadFault = ⊥
+RefusesFile command bytes WriteFault = ⊥
 
--- the greatest number of steps of a run
-abbrev pub bound_of : Command → ℕ
-bound_of (Byte binary entry bound) = bound
+-- the file that the words name was read as these bytes
+pub record FileRead (words : Option Command) (reading : Reading) (command : Command) (bytes : List ℕ) : Type 0 where
+  pub accepted : words ≡ Some command
+  pub read : WasRead reading (binary_of command) bytes
 
--- the job that a file's bytes stand for: the file is accepted, its entry can be fetched, and one byte in a0 is secret
-pub record IsJobOf (bytes : List ℕ) (entry bound : ℕ) (job : Job) : Type 0 where
-  pub accepted : has_narrow_form bytes ≡ true
-  pub can_start : IsSome (fetch_at (cells_of (narrow_elf bytes) []) entry)
-  pub job_is : IsByteJob job (cells_of (narrow_elf bytes) []) entry bound
-
--- why a file's bytes are no job, a line for each refusal that a file can have
-abbrev pub RefusesFile : List ℕ → ℕ → Refusal → Type 0
-RefusesFile bytes entry (Elf refusal) = (has_narrow_form bytes ≡ false) × (refusal ≡ Narrow)
-RefusesFile bytes entry Entry =
-    (has_narrow_form bytes ≡ true) × (fetch_at (cells_of (narrow_elf bytes) []) entry ≡ None)
-RefusesFile bytes entry Memory = Unit {0}
-RefusesFile bytes entry Words = ⊥
-RefusesFile bytes entry Long = ⊥
-RefusesFile bytes entry ReadFault = ⊥
-RefusesFile bytes entry WriteFault = ⊥
-
--- the table of a job: its sites and steps are exactly the leak sites, each found pair is the least that splits there, all finished control paths are counted, and so every pair is covered
-pub record IsTableOf (job : Job) (table : ByteTable) : Type 0 where
-  pub sites : AreLeakSites job (sites_of table.sites)
-  pub pairs : All (λ found. IsLeastPair job found.site found.step found.pair) table.sites
-  pub paths : table.paths ≡ path_count job
-  pub covered : CoversPairs job table.sites
-
--- the file that the words name was read as some bytes, and these are no job
+-- the file that the words name was read as some bytes, and these are refused
 pub record FileRefused (words : Option Command) (reading : Reading) (refusal : Refusal) : Type 0 where
   pub command : Command
   pub bytes : List ℕ
-  pub accepted : words ≡ Some command
-  pub read : WasRead reading (binary_of command) bytes
-  pub refused : RefusesFile bytes (entry_of command) refusal
+  pub file : FileRead words reading command bytes
+  pub refused : RefusesFile command bytes refusal
 
--- the file that the words name was read as some bytes, and this is the table of the job that words and bytes stand for
-pub record Checked (words : Option Command) (reading : Reading) (job : Job) (table : ByteTable) : Type 0 where
+-- the check of the routine that words and file name ran to its end, with this table
+pub record Checked (words : Option Command) (reading : Reading) (table : ByteTable) : Type 0 where
   pub command : Command
   pub bytes : List ℕ
-  pub accepted : words ≡ Some command
-  pub read : WasRead reading (binary_of command) bytes
-  pub job_is : IsJobOf bytes (entry_of command) (bound_of command) job
-  pub table_is : IsTableOf job table
+  pub file : FileRead words reading command bytes
+  pub executable : first_refusal bytes ≡ None
+  pub table_for : IsTableFor command (image_of bytes) table
 
--- the check ran to its end, with this table
-pub record Ran (words : Option Command) (reading : Reading) (table : ByteTable) : Type 0 where
-  pub job : Job
-  pub checked : Checked words reading job table
+-- this is the text for which words and file ask, with this table where they ask for a check
+pub record Answered (words : Option Command) (reading : Reading) (table : Option ByteTable) (text : List ℕ) : Type 0 where
+  pub command : Command
+  pub bytes : List ℕ
+  pub file : FileRead words reading command bytes
+  pub executable : first_refusal bytes ≡ None
+  pub text_is : IsTextOf command (image_of bytes) table text
 
--- and its whole report was written
-pub record Reported (words : Option Command) (reading : Reading) (writing : Writing) (table : ByteTable) : Type 0 where
-  pub job : Job
-  pub checked : Checked words reading job table
-  pub written : WroteWhole writing (report_of job table)
+-- the whole text was written
+pub record Written (words : Option Command) (reading : Reading) (writing : Writing) (table : Option ByteTable) : Type 0 where
+  pub text : List ℕ
+  pub answered : Answered words reading table text
+  pub written : WroteWhole writing text
 
--- and a front of its report was written
-pub record CutOff (words : Option Command) (reading : Reading) (writing : Writing) (table : ByteTable) : Type 0 where
-  pub job : Job
-  pub checked : Checked words reading job table
-  pub written : WroteFront writing (report_of job table)
+-- a front of the text was written
+pub record CutOff (words : Option Command) (reading : Reading) (writing : Writing) (table : Option ByteTable) : Type 0 where
+  pub text : List ℕ
+  pub answered : Answered words reading table text
+  pub written : WroteFront writing text
 
 -- why the call ends so, a line for each refusal and the last one for none; want of memory may come at any time
 abbrev pub Cause : Option Command → Reading → Writing → Option ByteTable → Option Refusal → Type 0
@@ -96,21 +77,21 @@ Cause words reading writing table (Some Entry) = FileRefused words reading Entry
 Cause words reading writing table (Some Long) = IsSomeAnd words (λ command. WasLong reading (binary_of command))
 Cause words reading writing table (Some Memory) = Unit {0}
 Cause words reading writing table (Some ReadFault) = IsSome words × WasCutOff reading
-Cause words reading writing table (Some WriteFault) = IsSomeAnd table (CutOff words reading writing)
-Cause words reading writing table None = IsSomeAnd table (Reported words reading writing)
+Cause words reading writing table (Some WriteFault) = CutOff words reading writing table
+Cause words reading writing table None = Written words reading writing table
 
--- where the check didn't run there is no table; want of memory may come after it too
+-- a refusal before the run leaves no table; whether a written text has one is said by the text
 abbrev pub HasTable : Option ByteTable → Option Refusal → Type 0
 HasTable table (Some Memory) = Unit {0}
-HasTable table (Some WriteFault) = IsSome table
-HasTable table None = IsSome table
+HasTable table (Some WriteFault) = Unit {0}
+HasTable table None = Unit {0}
 HasTable table (Some Words) = table ≡ None
 HasTable table (Some (Elf refusal)) = table ≡ None
 HasTable table (Some Entry) = table ≡ None
 HasTable table (Some Long) = table ≡ None
 HasTable table (Some ReadFault) = table ≡ None
 
--- nothing is written before the report is whole
+-- nothing is written before the text is whole
 abbrev pub Writes : Writing → Option Refusal → Type 0
 Writes writing None = Unit {0}
 Writes writing (Some WriteFault) = Unit {0}

@@ -1,7 +1,9 @@
 pub mod FindingStatus
 pub mod Status
 pub mod Outside
+pub mod Texts
 pub mod Causes
 pub mod Complete
 pub mod Answer
+pub mod Making
 pub mod Writes

@@ -17,7 +17,7 @@ refusal_status Memory = 70
 refusal_status ReadFault = 74
 refusal_status WriteFault = 75
 
--- a refusal's status, or the verdict's where nothing was refused
+-- a refusal's status; where nothing was refused the verdict's, and 0 where there is no verdict
 abbrev pub status_of : Option ByteTable → Option Refusal → ℕ
 status_of table (Some refusal) = refusal_status refusal
-status_of table None = option_map_or (λ t. finding_status (finding_of t)) table 70
+status_of table None = option_map_or (λ t. finding_status (finding_of t)) table 0

@@ -8,18 +8,18 @@ use ct_report::{Finding, verdict_of};
 /// How a call of the program ended.
 #[derive(Debug, Drop)]
 pub struct Finished {
-    /// The exit status: 0 secure, 1 insecure, and from 64 on a refusal's.
+    /// The exit status: 0 secure, or a whole trace or list; 1 insecure; and from 64 on a refusal's.
     pub status: u8,
     /// What the check found, where it ran to its end.
     pub table: Option<ByteTable>,
-    /// Why no whole report was written, if none was.
+    /// Why no whole text was written, if none was.
     pub refusal: Option<Refusal>,
 }
 
 impl Finished {
     ghost use Rattle.ct_main.specs.Status.{refusal_status, status_of};
 
-    /// The end of a call that ran no check.
+    /// The end of a call that ran nothing.
     pub fn refused(refusal: Refusal) -> Self
         ensures { result ≡ record { status = refusal_status refusal; table = None; refusal = Some refusal } }
     {
@@ -30,17 +30,18 @@ impl Finished {
         }
     }
 
-    /// The end of a call that ran a check.
-    pub fn checked(table: ByteTable, refusal: Option<Refusal>) -> Self
-        ensures { result ≡ record { status = status_of (Some table) refusal; table = Some table; refusal = refusal } }
+    /// The end of a call that read its file, with the table of a check.
+    pub fn ended(table: Option<ByteTable>, refusal: Option<Refusal>) -> Self
+        ensures { result ≡ record { status = status_of table refusal; table = table; refusal = refusal } }
     {
-        let status = match refusal {
-            Some(refusal) => refusal.status(),
-            None => finding_status(verdict_of(&table)),
+        let status = match (&refusal, &table) {
+            (Some(refusal), _) => refusal.status(),
+            (None, Some(table)) => finding_status(verdict_of(table)),
+            (None, None) => 0,
         };
         Finished {
             status,
-            table: Some(table),
+            table,
             refusal,
         }
     }

@@ -1,11 +1,14 @@
-//! The program as one call: words, files and an output in, a report and a status out.
+//! The program as one call: words, files and an output in, a text and a status out.
 #![tactic(auto)]
 
 mod finished;
-mod job_file;
+mod image_file;
+mod made;
+mod making;
 mod program;
 mod refusal;
-mod report_out;
+mod routine;
+mod text_out;
 
 pub use finished::Finished;
 pub use program::ctrel;

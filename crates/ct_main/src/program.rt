@@ -6,19 +6,20 @@ ghost use Rattle.ct_main.specs.Causes.{Asks};
 ghost use Rattle.ct_main.specs.Answer.{IsAnswer};
 
 use crate::finished::Finished;
-use crate::job_file::job_of;
+use crate::made::Made;
+use crate::making::make;
 use crate::refusal::Refusal;
-use crate::report_out::write_report;
-use ct_lines::{Command, WordsRefusal, read_words};
+use crate::text_out::write_made;
+use ct_lines::{WordsRefusal, read_words};
 use ct_outside::{ReadEnd, Shelf, Sink, read_all};
-use ct_pairs::byte_check;
 use std::alloc::Global;
 
 /// Runs the program on the words after its name.
 ///
-/// It reads the file that the words name, checks the routine, makes the whole report and then
-/// writes it; what it answers is the status to end with, the check's table, and the refusal to
-/// print. Its time and its memory are those of `byte_check`, beside the file and the report.
+/// It reads the file that the words name, does what they ask, makes the whole text and then
+/// writes it; what it answers is the status to end with, the table of a check, and the refusal to
+/// print. Its time and its memory are those of `byte_check`, `trace_text` or `list_text`, beside
+/// the file, its image and the text.
 pub fn ctrel<F: Shelf, S: Sink>(
     alloc: Global,
     words: &[String],
@@ -52,25 +53,17 @@ pub fn ctrel<F: Shelf, S: Sink>(
         Err(WordsRefusal::Memory) => return Finished::refused(Refusal::Memory),
         Err(WordsRefusal::Refused) => return Finished::refused(Refusal::Words),
     };
-    let Command::Byte {
-        binary,
-        entry,
-        bound,
-    } = command;
-    let bytes = match read_all(alloc, shelf, binary.into_string()) {
+    let name = match command.binary().copy(alloc) {
+        Ok(name) => name,
+        Err(_) => return Finished::refused(Refusal::Memory),
+    };
+    let bytes = match read_all(alloc, shelf, name.into_string()) {
         Ok(bytes) => bytes,
         Err(ReadEnd::Memory) => return Finished::refused(Refusal::Memory),
         Err(ReadEnd::Fault) => return Finished::refused(Refusal::ReadFault),
         Err(ReadEnd::Long) => return Finished::refused(Refusal::Long),
     };
-    let job = match job_of(alloc, bytes.as_slice(), entry, bound) {
-        Ok(job) => job,
-        Err(refusal) => return Finished::refused(refusal),
-    };
-    let table = match byte_check(alloc, &job) {
-        Ok(table) => table,
-        Err(_) => return Finished::refused(Refusal::Memory),
-    };
-    let refusal = write_report(alloc, &job, &table, out);
-    Finished::checked(table, refusal)
+    let Made { table, text } = make(alloc, &command, bytes);
+    let refusal = write_made(text, out);
+    Finished::ended(table, refusal)
 }

@@ -5,15 +5,15 @@ use elf_load::ElfRefusal;
 use std::alloc::AllocError;
 use thiserror::Error;
 
-/// Why the program wrote no report, or not the whole of one. As text it is the line on standard
+/// Why the program wrote no text, or not the whole of one. As text it is the line on standard
 /// error, without the program's name.
 #[derive(Clone, Copy, Debug, PartialEq, Eq, Error)]
 pub enum Refusal {
     /// The words are no command.
     #[error("words")]
     Words,
-    /// The file is no executable that is read here.
-    #[error("elf")]
+    /// The file is no static RV32IM executable.
+    #[error("elf {0}")]
     Elf(ElfRefusal),
     /// No instruction can be fetched at the entry.
     #[error("policy P10")]
@@ -27,7 +27,7 @@ pub enum Refusal {
     /// The file isn't there, or reading it failed.
     #[error("read")]
     ReadFault,
-    /// The output failed; what it took is a front of the report.
+    /// The output failed; what it took is a front of the text.
     #[error("write")]
     WriteFault,
 }

@@ -49,12 +49,16 @@ fn executable(alloc: Global, code: &[u32]) -> Result<Vec<u8>, AllocError> {
     Ok(file)
 }
 
-// A shelf with that one file, named `file`; its calls of this number fail.
+// A shelf with that file, named `file`, and one named `cut` that lacks its last byte; the shelf's
+// calls of this number fail.
 fn shelf(alloc: Global, code: &[u32], failing: u64) -> Result<MemoryShelf, AllocError>
     ensures { IfOk result (λ shelf. shelf.asked ≡ []) }
 {
     let mut files = Vec::new(alloc);
     files.push((String::from_str(alloc, "file")?, executable(alloc, code)?))?;
+    let mut cut = executable(alloc, code)?;
+    let _last = cut.pop();
+    files.push((String::from_str(alloc, "cut")?, cut))?;
     MemoryShelf::new(alloc, files, vec![in alloc; failing]?, 40)
 }
 
@@ -76,7 +80,7 @@ const LOAD: [u32; 2] = [0x0005_4503, 0x0000_8067];
 
 const BRANCH_TO_NEXT: [u32; 2] = [0x0005_0263, 0x0000_8067];
 
-const LOOP: [u32; 7] = [
+const LOOP: [u32; 8] = [
     0x0020_0293,
     0x0015_7313,
     0x0015_5513,
@@ -84,7 +88,10 @@ const LOOP: [u32; 7] = [
     0x0013_8393,
     0xfff2_8293,
     0xfe02_96e3,
+    0x0000_8067,
 ];
+
+const JUMPS: [u32; 4] = [0x0001_00b7, 0x0610_80e7, 0x0010_0073, 0x0000_0073];
 
 const SECURE: &str =
     "ctrel report 1\nverdict secure\nbound 10\npaths 1\ndoubts 0\nsites 0\nplaces 0\n";
@@ -99,10 +106,19 @@ const BRANCHES_IN_ONE_STEP: &str =
 const LOADS: &str = "ctrel report 1\nverdict insecure\nbound 10\npaths 1\ndoubts 0\nsites 1\n\
     site 0x00010054 step 1 load lbu a0, 0(a0)\nshared -\nleft 00\nright 01\nplaces 0\n";
 
+const LOOPS: &str = "ctrel report 1\nverdict insecure\nbound 20\npaths 4\ndoubts 0\nsites 1\n\
+    site 0x00010060 step 4 branch beq t1, zero, 0x00010068\nshared -\nleft 00\nright 01\nplaces 0\n";
+
+const BRANCH_TRACE: &str = "step 1 pc 0x00010054 touch - next 0x0001005c\n\
+    step 2 pc 0x0001005c touch - next 0x00000000\nend stop\n";
+
+const JUMP_TRACE: &str = "step 1 pc 0x00010054 touch - next 0x00010058\n\
+    step 2 pc 0x00010058 touch - next 0x00010060\nend call\n";
+
+const RETURN_LIST: &str = "0x00010054 00008067 jalr zero, 0(ra)\n";
+
 #[test]
-fn a_branch_or_a_load_on_the_secret_is_reported_and_nothing_else(
-    rt: HostRuntime,
-) -> Result<(), Fail> {
+fn each_command_writes_its_whole_text(rt: HostRuntime) -> Result<(), Fail> {
     let alloc = rt.alloc();
     for (code, line, status, text) in [
         (RETURN.as_slice(), "byte file 0x10054 10", 0, SECURE),
@@ -115,13 +131,21 @@ fn a_branch_or_a_load_on_the_secret_is_reported_and_nothing_else(
         ),
         (LOAD.as_slice(), "byte file 0x00010054 10", 1, LOADS),
         (BRANCH_TO_NEXT.as_slice(), "byte file 0x10054 10", 0, SECURE),
+        (LOOP.as_slice(), "byte file 0x10054 20", 1, LOOPS),
+        (BRANCH.as_slice(), "trace file 0x10054 5", 0, BRANCH_TRACE),
+        (JUMPS.as_slice(), "trace file 0x10054 5", 0, JUMP_TRACE),
+        (RETURN.as_slice(), "list file", 0, RETURN_LIST),
     ] {
         let mut shelf = shelf(alloc, code, NONE)?;
         let mut out = MemorySink::new(alloc, Vec::new(alloc), 1000, 1000)?;
         let finished = ctrel(alloc, words(alloc, line)?.as_slice(), &mut shelf, &mut out);
         assert_eq!(rt; finished.status, status, "{text}");
         assert_eq!(rt; finished.refusal, None, "{text}");
-        assert_eq!(rt; finished.table.is_some(), true, "{text}");
+        assert_eq!(rt;
+            finished.table.is_some(),
+            line.starts_with("byte"),
+            "{text}"
+        );
         assert_eq!(rt; out.written(), text.as_bytes(), "{text}");
     }
     Ok(())
@@ -147,12 +171,27 @@ fn refusals_write_nothing(rt: HostRuntime) -> Result<(), Fail> {
             Refusal::Words,
         ),
         (
-            LOOP.as_slice(),
-            "byte file 0x10054 20",
+            RETURN.as_slice(),
+            "byte cut 0x10054 10",
             NONE,
             65,
-            Refusal::Elf(ElfRefusal::Narrow),
+            Refusal::Elf(ElfRefusal::Segment(0)),
         ),
+        (
+            RETURN.as_slice(),
+            "list cut",
+            NONE,
+            65,
+            Refusal::Elf(ElfRefusal::Segment(0)),
+        ),
+        (
+            RETURN.as_slice(),
+            "trace file 0x10056 10",
+            NONE,
+            66,
+            Refusal::Entry,
+        ),
+        (RETURN.as_slice(), "list", NONE, 64, Refusal::Words),
         (
             RETURN.as_slice(),
             "byte file 0x10056 10",

@@ -32,7 +32,7 @@ pub use pair::Pair;
 pub use place::Place;
 pub use split::Split;
 pub use splitting::first_split;
-pub use starting::starts;
+pub use starting::{start_machine, starts};
 
 #[cfg(test)]
 mod tests;

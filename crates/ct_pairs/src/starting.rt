@@ -29,7 +29,8 @@ pub fn starts(alloc: Global, job: &Job, pair: &Pair) -> Result<(Machine, Machine
     Ok((left, right))
 }
 
-fn start_machine(
+/// The machine of the start with these values for the public and for the secret bytes.
+pub fn start_machine(
     alloc: Global,
     job: &Job,
     shared: &[u8],

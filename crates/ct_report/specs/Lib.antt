@@ -1,4 +1,3 @@
 pub mod Digits
 pub mod Kind
-pub mod Lines
 pub mod Report

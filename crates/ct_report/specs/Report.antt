@@ -12,7 +12,7 @@ use Rattle.ct_report.specs.declared.finding.Finding.TheVariants.{Secure, Insecur
 use Rattle.rv_decode.specs.Text.{address_text, text_value}
 use Rattle.ct_report.specs.Digits.{bytes_text}
 use Rattle.ct_report.specs.Kind.{kind_of, kind_name, instruction_at, HasKind}
-use Rattle.ct_report.specs.Lines.{line}
+use Rattle.ct_rows.specs.Lines.{line}
 
 -- a routine is secure where no site was found
 abbrev pub finding_of : ByteTable → Finding

@@ -2,7 +2,7 @@ ghost use Rattle.std.specs.Prelude.{◌≡◌, ◌++◌, codes, decimal};
 ghost use Rattle.std.specs.Result.{OnOk};
 ghost use Rattle.std.specs.String.{string_bytes};
 ghost use Rattle.ct_report.specs.Digits.{bytes_text};
-ghost use Rattle.ct_report.specs.Lines.{line};
+ghost use Rattle.ct_rows.specs.Lines.{line};
 
 use crate::digits::push_bytes;
 use std::alloc::AllocError;

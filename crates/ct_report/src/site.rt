@@ -6,7 +6,7 @@ ghost use Rattle.std.specs.String.{string_bytes};
 ghost use Rattle.rv_decode.specs.Instructions.{InRange};
 ghost use Rattle.rv_decode.specs.Text.{address_text};
 ghost use Rattle.ct_report.specs.Kind.{instruction_at, HasKind};
-ghost use Rattle.ct_report.specs.Lines.{line};
+ghost use Rattle.ct_rows.specs.Lines.{line};
 ghost use Rattle.ct_report.specs.Report.{instruction_text, site_line, site_lines};
 
 use crate::kind::Kind;

@@ -1,3 +1,5 @@
-pub mod Wording
-pub mod Header
-pub mod Loaded
+pub mod Accepted
+pub mod Names
+pub mod Overlaps
+pub mod Places
+pub mod Tables

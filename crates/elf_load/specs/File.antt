@@ -1,28 +1,30 @@
 -- ELF32 executables, little-endian, by the fields and rules of the System V ABI and the RISC-V psABI.
-use Rattle.std.specs.Prelude.{ℕ, zero, suc, ◌+◌, ◌*◌, ◌^◌, ◌%◌, min, max, nat_eq, nat_lt, nat_le, ◌==◌, Bool, not, ◌&&◌, ◌||◌, if◌then◌else◌, List, [], ◌∷◌, length, drop, Option, Some, None, sum_by, position, is_none}
+use Rattle.std.specs.Prelude.{ℕ, ◌+◌, ◌*◌, ◌^◌, ◌%◌, min, max, nat_eq, nat_lt, nat_le, ◌==◌, Bool, true, false, not, ◌&&◌, ◌||◌, if◌then◌else◌, List, [], ◌∷◌, ◌++◌, length, slice_index, Option, Some, None, sum_by, position}
 use Rattle.std.specs.List.{list_any, starts_with}
-use Rattle.byteorder.specs.Endian.{little_number}
+use Rattle.std.specs.Option.{option_or, option_map}
 use Rattle.elf_load.specs.declared.file_header.FileHeader.{FileHeader}
 use Rattle.elf_load.specs.declared.program_header.ProgramHeader.{ProgramHeader}
-
--- the number of so many bytes at an offset, the least byte first
-abbrev pub number_at : ℕ → ℕ → List ℕ → ℕ
-number_at count offset bytes = little_number count (drop offset bytes)
+use Rattle.elf_load.specs.declared.refusal.ElfRefusal.{ElfRefusal}
+use Rattle.elf_load.specs.declared.refusal.ElfRefusal.TheVariants.{Short, Magic, Class, Order, Version, Kind, Machine, Compressed, Table, Dynamic, Segment, Overlap, Large}
+use Rattle.elf_load.specs.Fields.{number_at, entries}
 
 -- the ELF header, each field at its offset
 unfoldable pub file_header : List ℕ → FileHeader
 file_header bytes = record {
-  class = number_at 1 4 bytes;
-  order = number_at 1 5 bytes;
-  identity_version = number_at 1 6 bytes;
+  class = slice_index bytes 4;
+  order = slice_index bytes 5;
+  identity_version = slice_index bytes 6;
   kind = number_at 2 16 bytes;
   machine = number_at 2 18 bytes;
   version = number_at 4 20 bytes;
   entry = number_at 4 24 bytes;
   program_table = number_at 4 28 bytes;
+  section_table = number_at 4 32 bytes;
   flags = number_at 4 36 bytes;
   program_entry_size = number_at 2 42 bytes;
   program_count = number_at 2 44 bytes;
+  section_entry_size = number_at 2 46 bytes;
+  section_count = number_at 2 48 bytes;
 }
 
 -- the program header at an offset of the file
@@ -36,14 +38,9 @@ program_header offset bytes = record {
   flags = number_at 4 (offset + 24) bytes;
 }
 
--- so many program headers of 32 bytes, from an offset on
-unfoldable pub headers_from : ℕ → ℕ → List ℕ → List ProgramHeader
-headers_from zero offset bytes = []
-headers_from (suc count) offset bytes = program_header offset bytes ∷ headers_from count (offset + 32) bytes
-
--- the program header table
+-- the program header table: entries of 32 bytes
 unfoldable pub program_headers : List ℕ → List ProgramHeader
-program_headers bytes = headers_from (file_header bytes).program_count (file_header bytes).program_table bytes
+program_headers bytes = entries program_header 32 (file_header bytes).program_count (file_header bytes).program_table bytes
 
 -- E1: there are at least the 52 bytes of the ELF header
 abbrev pub has_header : List ℕ → Bool
@@ -83,9 +80,13 @@ has_program_table size header =
     (nat_le 1 header.program_count && nat_le header.program_count 64)
     && (header.program_entry_size == 32 && nat_le (header.program_table + 32 * header.program_count) size)
 
+-- a program header of type PT_DYNAMIC or PT_INTERP
+abbrev pub is_dynamic : ProgramHeader → Bool
+is_dynamic header = header.kind == 2 || header.kind == 3
+
 -- E10: no program header asks for dynamic linking or for an interpreter
 abbrev pub is_static : List ProgramHeader → Bool
-is_static headers = not (list_any (λ header. header.kind == 2 || header.kind == 3) headers)
+is_static headers = not (list_any is_dynamic headers)
 
 -- a program header of type PT_LOAD
 abbrev pub is_load : ProgramHeader → Bool
@@ -113,11 +114,7 @@ share_address left right =
 unfoldable pub first_overlap_from : ℕ → List ProgramHeader → Option (ℕ × ℕ)
 first_overlap_from index [] = None
 first_overlap_from index (header ∷ headers) =
-    pair_or (position (share_address header) headers) (first_overlap_from (index + 1) headers)
-  where
-    pair_or : Option ℕ → Option (ℕ × ℕ) → Option (ℕ × ℕ)
-    pair_or None later = later
-    pair_or (Some distance) later = Some (index, index + 1 + distance)
+    option_or (option_map (λ distance. (index, index + 1 + distance)) (position (share_address header) headers)) (first_overlap_from (index + 1) headers)
 
 -- E12: the first two program headers whose segments share an address
 unfoldable pub first_overlap : List ProgramHeader → Option (ℕ × ℕ)
@@ -131,29 +128,45 @@ loaded_size header = if is_load header then header.memory_size else 0
 abbrev pub has_small_memory : List ProgramHeader → Bool
 has_small_memory headers = nat_le (sum_by loaded_size headers) (2 ^ 24)
 
+-- a rule that holds refuses nothing, and one that fails has its refusal
+abbrev pub unless : Bool → ElfRefusal → Option ElfRefusal
+unless true refusal = None
+unless false refusal = Some refusal
+
+-- the first refusal
+abbrev pub first_of : List (Option ElfRefusal) → Option ElfRefusal
+first_of [] = None
+first_of (rule ∷ rules) = option_or rule (first_of rules)
+
 -- E3 to E8
-abbrev pub is_riscv_executable : FileHeader → Bool
-is_riscv_executable header =
-    is_32_bit header
-    && (is_little_endian header
-    && (is_current_version header
-    && (is_executable_file header
-    && (is_for_riscv header
-    && is_uncompressed header))))
+abbrev pub header_rules : FileHeader → List (Option ElfRefusal)
+header_rules header =
+    unless (is_32_bit header) Class
+    ∷ unless (is_little_endian header) Order
+    ∷ unless (is_current_version header) Version
+    ∷ unless (is_executable_file header) Kind
+    ∷ unless (is_for_riscv header) Machine
+    ∷ unless (is_uncompressed header) Compressed
+    ∷ []
 
 -- E10 to E13, of a file of so many bytes
-abbrev pub has_sound_segments : ℕ → List ProgramHeader → Bool
-has_sound_segments size headers =
-    is_static headers
-    && (is_none (first_misplaced size headers)
-    && (is_none (first_overlap headers)
-    && has_small_memory headers))
+abbrev pub segment_rules : ℕ → List ProgramHeader → List (Option ElfRefusal)
+segment_rules size headers =
+    unless (is_static headers) Dynamic
+    ∷ option_map (λ index. Segment index) (first_misplaced size headers)
+    ∷ option_map (λ pair. Overlap pair.0 pair.1) (first_overlap headers)
+    ∷ unless (has_small_memory headers) Large
+    ∷ []
 
 -- E1 to E13
-abbrev pub meets_rules : List ℕ → Bool
-meets_rules bytes =
-    has_header bytes
-    && (has_magic bytes
-    && (is_riscv_executable (file_header bytes)
-    && (has_program_table (length bytes) (file_header bytes)
-    && has_sound_segments (length bytes) (program_headers bytes))))
+abbrev pub rules : List ℕ → List (Option ElfRefusal)
+rules bytes =
+    unless (has_header bytes) Short
+    ∷ unless (has_magic bytes) Magic
+    ∷ header_rules (file_header bytes)
+    ++ unless (has_program_table (length bytes) (file_header bytes)) Table
+    ∷ segment_rules (length bytes) (program_headers bytes)
+
+-- the first rule that fails, with its numbers
+unfoldable pub first_refusal : List ℕ → Option ElfRefusal
+first_refusal bytes = first_of (rules bytes)

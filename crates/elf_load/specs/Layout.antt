@@ -1,5 +1,5 @@
 -- Where loaded bytes lie in memory.
-use Rattle.std.specs.Prelude.{ℕ, ◌≡◌, ◌+◌, ◌%◌, ◌^◌, ◌≤◌, ◌<◌, min, max, List, length, map, All, AllPairs, sum_by}
+use Rattle.std.specs.Prelude.{ℕ, ◌+◌, ◌^◌, ◌≤◌, ◌<◌, min, max, List, length, map, All, AllPairs, sum_by}
 use Rattle.elf_load.specs.declared.segment.Segment.{Segment}
 use Rattle.elf_load.specs.declared.elf.Elf.{Elf}
 
@@ -29,7 +29,3 @@ segment_extents elf = map segment_extent elf.segments
 -- every loaded byte is a byte
 abbrev pub HoldsBytes : Elf → Type 0
 HoldsBytes elf = All (λ segment. All (λ byte. byte < 256) segment.bytes) elf.segments
-
--- each segment is of whole words, and has one at least
-abbrev pub HoldsWords : Elf → Type 0
-HoldsWords elf = All (λ segment. (0 < length segment.bytes) × (length segment.bytes % 4 ≡ 0) × (segment.address % 4 ≡ 0)) elf.segments

@@ -1,4 +1,5 @@
-pub mod Checking
+pub mod Fields
 pub mod File
 pub mod Layout
-pub mod Narrow
+pub mod Loading
+pub mod Symbols

@@ -1,18 +1,24 @@
-//! ELF32 executables, from the bytes of a file to the segments that it loads.
+//! ELF32 executables, from the bytes of a file to the segments that it loads and the names of its
+//! addresses.
 #![tactic(auto)]
 
 mod elf;
 mod file_header;
+mod loading;
 mod program_header;
-mod reading;
 mod refusal;
+mod rules;
+mod section_header;
 mod segment;
 mod symbol;
+mod symbol_entry;
+mod symbol_table;
+mod table;
+#[cfg(test)]
+mod tests;
 
 pub use elf::Elf;
-pub use file_header::FileHeader;
-pub use program_header::ProgramHeader;
-pub use reading::load;
+pub use loading::load;
 pub use refusal::ElfRefusal;
 pub use segment::Segment;
 pub use symbol::Symbol;

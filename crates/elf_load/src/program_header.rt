@@ -1,10 +1,12 @@
 ghost use Rattle.std.specs.Prelude.{◌≡◌, ◌+◌, ◌≤◌, length};
+ghost use Rattle.elf_load.specs.File.{program_header, is_dynamic, is_load, is_within, share_address};
+ghost use Rattle.elf_load.specs.Loading.{loads_bytes};
 
 use byteorder::{ByteOrder, LittleEndian};
 
 /// A program header's fields that are looked at (System V ABI, "Program Header").
 #[derive(Clone, Copy, Debug, PartialEq, Eq)]
-pub struct ProgramHeader {
+pub(crate) struct ProgramHeader {
     /// `p_type`: 1 is PT_LOAD, 2 PT_DYNAMIC, 3 PT_INTERP.
     pub kind: u32,
     /// `p_offset`, where the segment's bytes begin in the file.
@@ -20,44 +22,69 @@ pub struct ProgramHeader {
 }
 
 impl ProgramHeader {
-    ghost use Rattle.elf_load.specs.File.{program_header, is_within};
-    ghost use Rattle.elf_load.specs.Narrow.{is_narrow_segment};
+    /// The bytes of a program header.
+    pub(crate) const SIZE: usize = 32;
 
-    /// The header at an offset of a file.
+    /// The most program headers of a file that is loaded.
+    pub(crate) const MOST: usize = 64;
+
+    pub(crate) const EMPTY: ProgramHeader = ProgramHeader {
+        kind: 0,
+        offset: 0,
+        address: 0,
+        file_size: 0,
+        memory_size: 0,
+        flags: 0,
+    };
+
     #[tactic(auto, unfolding(crate::specs::File::program_header))]
-    pub fn read(bytes: &[u8], offset: usize) -> ProgramHeader
-        requires { offset + 32 ≤ length bytes.now }
-        ensures { result ≡ program_header offset bytes.now }
+    pub(crate) fn read(bytes: &[u8], at: usize) -> ProgramHeader
+        requires { at + 32 ≤ length bytes.now }
+        ensures { result ≡ program_header at bytes.now }
     {
         ProgramHeader {
-            kind: LittleEndian::read_u32(&bytes[offset..]),
-            offset: LittleEndian::read_u32(&bytes[offset + 4..]),
-            address: LittleEndian::read_u32(&bytes[offset + 8..]),
-            file_size: LittleEndian::read_u32(&bytes[offset + 16..]),
-            memory_size: LittleEndian::read_u32(&bytes[offset + 20..]),
-            flags: LittleEndian::read_u32(&bytes[offset + 24..]),
+            kind: LittleEndian::read_u32(&bytes[at..]),
+            offset: LittleEndian::read_u32(&bytes[at + 4..]),
+            address: LittleEndian::read_u32(&bytes[at + 8..]),
+            file_size: LittleEndian::read_u32(&bytes[at + 16..]),
+            memory_size: LittleEndian::read_u32(&bytes[at + 20..]),
+            flags: LittleEndian::read_u32(&bytes[at + 24..]),
         }
     }
 
-    /// Whether the segment lies within a file of so many bytes and within memory.
-    pub fn is_within(&self, size: usize) -> bool
+    pub(crate) fn is_dynamic(&self) -> bool
+        ensures { result ≡ is_dynamic self.now }
+    {
+        self.kind == 2 || self.kind == 3
+    }
+
+    pub(crate) fn is_load(&self) -> bool
+        ensures { result ≡ is_load self.now }
+    {
+        self.kind == 1
+    }
+
+    pub(crate) fn loads_bytes(&self) -> bool
+        ensures { result ≡ loads_bytes self.now }
+    {
+        self.is_load() && self.memory_size != 0
+    }
+
+    pub(crate) fn is_within(&self, size: usize) -> bool
         ensures { result ≡ is_within size self.now }
     {
         self.file_size <= self.memory_size
             && (self.file_size == 0
                 || u64::from(self.offset) + u64::from(self.file_size) <= size as u64)
-            && u64::from(self.address) + u64::from(self.memory_size) <= 0x1_0000_0000
+            && u64::from(self.address) + u64::from(self.memory_size) <= 1 << 32
     }
 
-    /// Whether the segment is of whole words to read and execute, all of them in the file.
-    pub fn is_narrow(&self) -> bool
-        ensures { result ≡ is_narrow_segment self.now }
+    pub(crate) fn shares_address(&self, other: &ProgramHeader) -> bool
+        ensures { result ≡ share_address self.now other.now }
     {
-        self.kind == 1
-            && self.flags == 5
-            && self.file_size == self.memory_size
-            && self.file_size != 0
-            && self.file_size % 4 == 0
-            && self.address % 4 == 0
+        let end = u64::from(self.address) + u64::from(self.memory_size);
+        let other_end = u64::from(other.address) + u64::from(other.memory_size);
+        let first = u64::from(self.address.max(other.address));
+        self.is_load() && other.is_load() && first < end.min(other_end)
     }
 }

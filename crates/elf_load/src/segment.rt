@@ -6,7 +6,7 @@ use ct_rows::Row;
 pub struct Segment {
     /// The address of the first byte.
     pub address: u32,
-    /// The bytes, in ascending address.
+    /// The bytes, in ascending address: those of the file, then zeros.
     pub bytes: Row<u8>,
     /// PF_R: the bytes may be loaded from.
     pub read: bool,

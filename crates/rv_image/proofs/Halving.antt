@@ -52,6 +52,7 @@ pub IsPlace-hit : (spans : List Span) (starts bytes : List ℕ) (k address : ℕ
       span = get_or spans k d;
       index = get_or starts k 0 + (address - (get_or spans k d).address);
       byte = get_or bytes (get_or starts k 0 + (address - (get_or spans k d).address)) 0;
+      left = (get_or spans k d).length - (address - (get_or spans k d).address);
     })
 unfolding cell_at index_at size_of
 IsPlace-hit spans starts bytes k address d laid inside from within =

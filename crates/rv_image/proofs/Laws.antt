@@ -211,6 +211,45 @@ index_at-injective cells left right index image one other =
     let second = index_at-cell cells right index d image other in
     sym (cell_at-address cells left (get_or cells index d) first.1) ∙ cell_at-address cells right (get_or cells index d) second.1
 
+-- the next address
+
+count_by-next : (cells : List Cell) (low address : ℕ) (cell : Cell) → Rises low cells → cell_at cells address ≡ Some cell
+    → count_by (λ c. ltb c.address (suc address)) cells ≡ suc (count_by (λ c. ltb c.address address) cells)
+unfolding Rises cell_at
+count_by-next [] low address cell rises found = absurd cc
+count_by-next (first ∷ cells) low address cell rises found =
+    let split = sum_by-cons (λ (c : Cell). cond (ltb c.address address) 1 0) first cells in
+    let split_next = sum_by-cons (λ (c : Cell). cond (ltb c.address (suc address)) 1 0) first cells in
+    elim (found_here (eqb first.address address) first cell (cell_at cells address) found) [
+      | inl here ↦
+          let same = eqb-true first.address address here.0 in
+          let no = le-ltb first.address address (omega arith) in
+          let yes = lt-ltb first.address (suc address) (omega arith) in
+          let none = count_by-low cells (suc first.address) address rises.1 (omega arith) in
+          let none_next = count_by-low cells (suc first.address) (suc address) rises.1 (omega arith) in
+          rw (split, split_next, no, yes) (omega arith)
+      | inr later ↦
+          let more = cell_at-low cells (suc first.address) address cell rises.1 later.1 in
+          let yes = lt-ltb first.address address (omega arith) in
+          let yes_next = lt-ltb first.address (suc address) (omega arith) in
+          let rest = count_by-next cells (suc first.address) address cell rises.1 later.1 in
+          rw (split, split_next, yes, yes_next) (omega arith)
+    ]
+
+always_some : {A : Type 0} (n : ℕ) (o : Option A) → is_some (option_map (λ _. n) o) ≡ true → option_map (λ _. n) o ≡ Some n
+always_some n None some = absurd cc
+always_some n (Some x) some = refl
+
+-- the address after an accessible one has the next index, if it is accessible
+pub index_at-next : (cells : List Cell) (address index : ℕ) → IsImage cells → index_at cells address ≡ Some index → is_some (index_at cells (suc address)) ≡ true
+    → index_at cells (suc address) ≡ Some (suc index)
+unfolding index_at
+index_at-next cells address index image found accessible =
+    let some = some_of (λ (_ : Cell). count_by (λ c. ltb c.address address) cells) (cell_at cells address) index found in
+    let next = count_by-next cells 0 address some.0 (Rises-all cells image.ascending) some.1 in
+    let count : count_by (λ c. ltb c.address (suc address)) cells ≡ suc index = rw (next, some.2) refl in
+    always_some (count_by (λ c. ltb c.address (suc address)) cells) (cell_at cells (suc address)) accessible ∙ ap (λ (n : ℕ). Some n) count
+
 -- the loaded bytes
 
 pub length-bytes_of : (cells : List Cell) → length (bytes_of cells) ≡ size_of cells

@@ -2,7 +2,9 @@ pub mod Runs
 pub mod Spans
 pub mod Ascending
 pub mod Halving
+pub mod Holding
 pub mod Laws
+pub mod RunLaws
 pub mod Ordering
 pub mod Putting
 pub mod Fetching

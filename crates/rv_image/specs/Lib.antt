@@ -4,4 +4,5 @@ pub mod Loading
 pub mod Part
 pub mod Place
 pub mod Ranges
+pub mod Run
 pub mod View

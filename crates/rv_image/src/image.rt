@@ -1,9 +1,10 @@
-ghost use Rattle.std.specs.Prelude.{◌≡◌, ◌<◌, ◌≤◌, ◌^◌, false, IfOk, IfSome, MatchOption, None, All};
+ghost use Rattle.std.specs.Prelude.{◌≡◌, ◌+◌, ◌<◌, ◌≤◌, ◌^◌, ◌%◌, false, IfOk, IfSome, MatchOption, None, All};
 ghost use Rattle.std.specs.List.{flat_map};
 ghost use Rattle.rv_image.specs.Image.{IsImage, cell_at, readable_at, writable_at, loaded_at, index_at, executable_at, fetch_at, size_of, bytes_of};
 ghost use Rattle.rv_image.specs.Loading.{CanBuild, cells_of, part_cells};
-ghost use Rattle.rv_image.specs.Place.{IsExecutable};
+ghost use Rattle.rv_image.specs.Place.{IsExecutable, IsHeld, little_word};
 ghost use Rattle.rv_image.specs.Ranges.{rights_of, rights_in};
+ghost use Rattle.rv_image.specs.Run.{readable_run_at, writable_run_at, IsRun};
 ghost use Rattle.rv_image.specs.View.{LiesFrom, total};
 
 use crate::part::Part;
@@ -94,6 +95,40 @@ impl Image {
         }
     }
 
+    /// The index of the first of `count` addresses in a row, where all may be loaded from and none
+    /// passes 2^32.
+    pub fn readable_run(&self, address: u32, count: u32) -> Option<u32>
+        requires { 0 < count }
+        ensures first { result ≡ readable_run_at self.now address count }
+        ensures others { IfSome result (IsRun self.now address count) }
+    {
+        let Some(place) = self.place_in_span(address, count) else {
+            return self.readable_each(address, count);
+        };
+        if place.span.read {
+            Some(place.index)
+        } else {
+            None
+        }
+    }
+
+    /// The index of the first of `count` addresses in a row, where all may be stored to and none
+    /// passes 2^32.
+    pub fn writable_run(&self, address: u32, count: u32) -> Option<u32>
+        requires { 0 < count }
+        ensures first { result ≡ writable_run_at self.now address count }
+        ensures others { IfSome result (IsRun self.now address count) }
+    {
+        let Some(place) = self.place_in_span(address, count) else {
+            return self.writable_each(address, count);
+        };
+        if place.span.write {
+            Some(place.index)
+        } else {
+            None
+        }
+    }
+
     /// The instruction word at a multiple of 4 whose four bytes may be executed.
     pub fn fetch(&self, pc: u32) -> Option<u32>
         ensures { result ≡ fetch_at self.now pc }
@@ -101,11 +136,72 @@ impl Image {
         if pc % 4 != 0 {
             return None;
         }
+        let Some(place) = self.place_in_span(pc, 4) else {
+            return self.fetch_each(pc);
+        };
+        if place.span.exec {
+            Some(self.word(place.index))
+        } else {
+            None
+        }
+    }
+
+    /// The word of the four loaded bytes from an index on, the least byte first.
+    fn word(&self, index: u32) -> u32
+        requires { index + 4 ≤ size_of self.now }
+        ensures { result ≡ little_word (bytes_of self.now) index }
+    {
+        let at = index as usize;
+        u32::from_le_bytes([
+            self.bytes[at],
+            self.bytes[at + 1],
+            self.bytes[at + 2],
+            self.bytes[at + 3],
+        ])
+    }
+
+    /// The instruction word at a multiple of 4, byte by byte.
+    fn fetch_each(&self, pc: u32) -> Option<u32>
+        requires { pc % 4 ≡ 0 }
+        ensures { result ≡ fetch_at self.now pc }
+    {
         let first = self.executable(pc)?;
         let second = self.executable(pc + 1)?;
         let third = self.executable(pc + 2)?;
         let fourth = self.executable(pc + 3)?;
         Some(u32::from_le_bytes([first, second, third, fourth]))
+    }
+
+    #[tactic(auto, using(crate::proofs::RunLaws::each_allowed_next), unfolding(crate::specs::Run::run_at, crate::specs::Run::each_allowed))]
+    fn readable_each(&self, address: u32, count: u32) -> Option<u32>
+        requires { 0 < count }
+        ensures { result ≡ readable_run_at self.now address count }
+    {
+        if count - 1 > u32::MAX - address {
+            return None;
+        }
+        'addresses: for k in 0..count {
+            if !self.readable(address + k) {
+                return None;
+            }
+        }
+        self.index_of(address)
+    }
+
+    #[tactic(auto, using(crate::proofs::RunLaws::each_allowed_next), unfolding(crate::specs::Run::run_at, crate::specs::Run::each_allowed))]
+    fn writable_each(&self, address: u32, count: u32) -> Option<u32>
+        requires { 0 < count }
+        ensures { result ≡ writable_run_at self.now address count }
+    {
+        if count - 1 > u32::MAX - address {
+            return None;
+        }
+        'addresses: for k in 0..count {
+            if !self.writable(address + k) {
+                return None;
+            }
+        }
+        self.index_of(address)
     }
 
     /// The byte at an address that may be executed.
@@ -180,9 +276,24 @@ impl Image {
     }
 
     fn place(&self, address: u32) -> Option<Place>
-        ensures { MatchOption result (cell_at self.now address ≡ None) (IsPlace self.now address) }
+        ensures place { MatchOption result (cell_at self.now address ≡ None) (IsPlace self.now address) }
+        ensures held { IfSome result (λ place. IsHeld self.now address place.left place) }
+        ensures image { IsImage self.now }
     {
         Place::of(&self.spans, &self.starts, &self.bytes, address)
+    }
+
+    /// The place of the first of `count` addresses in a row, where one span holds them all.
+    fn place_in_span(&self, address: u32, count: u32) -> Option<Place>
+        ensures held { IfSome result (IsHeld self.now address count) }
+        ensures image { IsImage self.now }
+    {
+        let place = self.place(address)?;
+        if count <= place.left {
+            Some(place)
+        } else {
+            None
+        }
     }
 }
 
@@ -194,8 +305,9 @@ mod tests {
     use std::alloc::{AllocError, Global};
     use std::test::Fail;
 
-    // One word to read and execute, a gap, and two zeros to read and write.
-    fn two_spans(alloc: Global) -> Result<Image, AllocError> {
+    // One word to read and execute, a gap, two zeros to read and write, two to read right after
+    // them, and the last two addresses.
+    fn four_spans(alloc: Global) -> Result<Image, AllocError> {
         let code = Row::from_vec(Vec::from_slice(alloc, &[0x67, 0x80, 0, 0])?);
         let mut segments = Vec::new(alloc);
         segments.push(Segment {
@@ -217,12 +329,21 @@ mod tests {
             write: true,
             exec: false,
         };
-        Image::build(alloc, &elf, &[work])
+        let constants = Span {
+            address: 0x20002,
+            write: false,
+            ..work
+        };
+        let last = Span {
+            address: 0xffff_fffe,
+            ..work
+        };
+        Image::build(alloc, &elf, &[work, constants, last])
     }
 
     #[test]
-    fn answers_at_two_spans_and_a_gap(rt: HostRuntime) -> Result<(), Fail> {
-        let image = two_spans(rt.alloc())?;
+    fn answers_at_four_spans_and_a_gap(rt: HostRuntime) -> Result<(), Fail> {
+        let image = four_spans(rt.alloc())?;
         // Address, rights to read and to write, byte, index, instruction word.
         let rows = [
             (0x10053, false, false, None, None, None),
@@ -233,7 +354,8 @@ mod tests {
             (0x1ffff, false, false, None, None, None),
             (0x20000, true, true, Some(0), Some(4), None),
             (0x20001, true, true, Some(0), Some(5), None),
-            (0x20002, false, false, None, None, None),
+            (0x20002, true, false, Some(0), Some(6), None),
+            (0x20004, false, false, None, None, None),
         ];
         for (address, read, write, byte, index, word) in rows {
             assert_eq!(rt; image.readable(address), read);
@@ -242,10 +364,27 @@ mod tests {
             assert_eq!(rt; image.index_of(address), index);
             assert_eq!(rt; image.fetch(address), word);
         }
-        assert_eq!(rt; image.size(), 6);
-        assert_eq!(rt; image.ranges().len(), 2);
+        // Address, count, index where all may be loaded from, index where all may be stored to.
+        let runs = [
+            (0x10054, 4, Some(0), None),
+            (0x10056, 4, None, None),
+            (0x20000, 2, Some(4), Some(4)),
+            (0x20001, 2, Some(5), None),
+            (0x20002, 4, None, None),
+            (0xffff_fffe, 2, Some(8), Some(8)),
+            (0xffff_fffe, 4, None, None),
+        ];
+        for (address, count, readable, writable) in runs {
+            assert_eq!(rt; image.readable_run(address, count), readable);
+            assert_eq!(rt; image.writable_run(address, count), writable);
+        }
+        assert_eq!(rt; image.size(), 10);
+        assert_eq!(rt; image.ranges().len(), 4);
         let bytes = image.copy(rt.alloc())?.loaded_bytes(rt.alloc())?;
-        assert_eq!(rt; bytes.as_slice(), [0x67, 0x80, 0, 0, 0, 0].as_slice());
+        assert_eq!(rt;
+            bytes.as_slice(),
+            [0x67, 0x80, 0, 0, 0, 0, 0, 0, 0, 0].as_slice()
+        );
         Ok(())
     }
 }

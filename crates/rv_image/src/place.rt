@@ -1,4 +1,4 @@
-ghost use Rattle.std.specs.Prelude.{◌≡◌, ◌≤◌, ◌<◌, length, MatchOption, None};
+ghost use Rattle.std.specs.Prelude.{◌≡◌, ◌≤◌, ◌<◌, length, MatchOption, IfSome, None};
 ghost use Rattle.std.specs.List.{AllWithin};
 ghost use Rattle.rv_image.specs.View.{LiesFrom, IsLaidOut, cells_in};
 
@@ -10,6 +10,8 @@ pub(crate) struct Place {
     pub span: Span,
     pub index: u32,
     pub byte: u8,
+    /// How many addresses of the span there are from this one on.
+    pub left: u32,
 }
 
 /// How many spans begin at or below the address.
@@ -23,13 +25,14 @@ fn begun(spans: &[Span], address: u32) -> usize
 }
 
 impl Place {
-    ghost use Rattle.rv_image.specs.Place.{IsPlace};
+    ghost use Rattle.rv_image.specs.Place.{IsPlace, IsHeld};
     ghost use Rattle.rv_image.specs.Image.{cell_at};
 
     /// The place of an address, found by halving the spans.
     pub fn of(spans: &[Span], starts: &[u32], bytes: &[u8], address: u32) -> Option<Place>
         requires { IsLaidOut spans.now starts.now bytes.now }
-        ensures { MatchOption result (cell_at (cells_in spans.now bytes.now) address ≡ None) (IsPlace (cells_in spans.now bytes.now) address) }
+        ensures place { MatchOption result (cell_at (cells_in spans.now bytes.now) address ≡ None) (IsPlace (cells_in spans.now bytes.now) address) }
+        ensures held { IfSome result (λ place. IsHeld (cells_in spans.now bytes.now) address place.left place) }
     {
         let begun = begun(spans, address);
         if begun == 0 {
@@ -45,6 +48,7 @@ impl Place {
             span,
             index,
             byte: bytes[index as usize],
+            left: span.length - offset,
         })
     }
 }

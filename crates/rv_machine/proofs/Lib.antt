@@ -1,3 +1,4 @@
 pub mod Memory
+pub mod Rows
 pub mod StepLaws
 pub mod TrailLaws

@@ -1,3 +1,4 @@
+pub mod Row
 pub mod State
 pub mod Step
 pub mod Trail

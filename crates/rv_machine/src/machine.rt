@@ -1,9 +1,10 @@
-ghost use Rattle.std.specs.Prelude.{◌≡◌, ◌+◌, ◌%◌, ◌^◌, ◌<◌, ◌≤◌, ◌==◌, ◌↔◌, if◌then◌else◌, None, IfOk, IsNone, length, replicate, slice_set};
+ghost use Rattle.std.specs.Prelude.{◌≡◌, ◌+◌, ◌%◌, ◌^◌, ◌<◌, ◌≤◌, ◌==◌, ◌↔◌, if◌then◌else◌, Some, None, IfOk, IsNone, length, replicate, slice_set};
 ghost use Rattle.ct_words.specs.Words.{extend_value, test_value, IsAccessSize};
 ghost use Rattle.rv_decode.specs.Instructions.{InRange};
 ghost use Rattle.rv_image.specs.Image.{readable_at, writable_at, fetch_at, bytes_of, size_of};
 ghost use Rattle.rv_machine.specs.declared.end.End.TheVariants as endings;
 ghost use Rattle.rv_machine.specs.declared.touch.Touch.TheVariants as touches;
+ghost use Rattle.rv_machine.specs.Row.{row_value, row_written};
 ghost use Rattle.rv_machine.specs.State.{register_value, register_written};
 ghost use Rattle.rv_machine.specs.Step as steps;
 ghost use Rattle.rv_machine.specs.Step.{wrapped, even, following, address_of, byte_value, byte_stored, loaded_value, bytes_stored, all_allowed, goes, faults, ends};
@@ -167,6 +168,42 @@ impl Machine {
         }
     }
 
+    #[tactic(auto, using(crate::proofs::Rows::row_value_one, crate::proofs::Rows::row_value_two, crate::proofs::Rows::row_value_four))]
+    fn value_at(&self, index: u32, bytes: u32) -> u32
+        requires access { IsAccessSize bytes }
+        requires within { index + bytes ≤ length self.now.bytes }
+        ensures { result ≡ row_value self.now.bytes index bytes }
+    {
+        let at = index as usize;
+        match bytes {
+            1 => u32::from(self.bytes[at]),
+            2 => u32::from(u16::from_le_bytes([self.bytes[at], self.bytes[at + 1]])),
+            _ => u32::from_le_bytes([
+                self.bytes[at],
+                self.bytes[at + 1],
+                self.bytes[at + 2],
+                self.bytes[at + 3],
+            ]),
+        }
+    }
+
+    /// The little-endian number of the bytes from an address on, where each may be loaded from.
+    fn read(&self, image: &Image, address: u32, bytes: u32) -> Option<u32>
+        requires size { length self.now.bytes ≡ size_of image.now }
+        requires access { IsAccessSize bytes }
+        ensures { result
+            ≡ (if all_allowed (readable_at image.now) address bytes then Some (loaded_value image.now self.now address bytes) else None) }
+    {
+        if let Some(index) = image.readable_run(address, bytes) {
+            return Some(self.value_at(index, bytes));
+        }
+        if all_readable(image, address, bytes) {
+            Some(self.loaded(image, address, bytes))
+        } else {
+            None
+        }
+    }
+
     fn store_byte(&mut self, image: &Image, address: u32, value: u8)
         requires { length self.old.bytes ≡ size_of image.now }
         ensures { self.new ≡ record self.old { bytes = byte_stored image.now self.old.bytes address value } }
@@ -188,6 +225,51 @@ impl Machine {
             at = at.wrapping_add(1);
             rest /= 0x100;
         }
+    }
+
+    #[tactic(auto, using(crate::proofs::Rows::row_written_two))]
+    fn set_half(&mut self, at: usize, value: u32)
+        requires { at + 2 ≤ length self.old.bytes }
+        ensures { self.new ≡ record self.old { bytes = row_written self.old.bytes at 2 value } }
+    {
+        self.bytes[at] = (value % 0x100) as u8;
+        self.bytes[at + 1] = (value / 0x100 % 0x100) as u8;
+    }
+
+    #[tactic(auto, using(crate::proofs::Rows::row_written_one, crate::proofs::Rows::row_written_four, crate::proofs::Rows::length_row_written))]
+    fn set_value(&mut self, index: u32, bytes: u32, value: u32)
+        requires access { IsAccessSize bytes }
+        requires within { index + bytes ≤ length self.old.bytes }
+        ensures { self.new ≡ record self.old { bytes = row_written self.old.bytes index bytes value } }
+    {
+        let at = index as usize;
+        match bytes {
+            1 => self.bytes[at] = (value % 0x100) as u8,
+            2 => self.set_half(at, value),
+            _ => {
+                self.set_half(at, value);
+                self.set_half(at + 2, value / 0x1_0000);
+            }
+        }
+    }
+
+    /// Writes the low bytes of a value from an address on, where each may be stored to.
+    fn write(&mut self, image: &Image, address: u32, bytes: u32, value: u32) -> bool
+        requires size { length self.old.bytes ≡ size_of image.now }
+        requires access { IsAccessSize bytes }
+        ensures allowed { result ≡ all_allowed (writable_at image.now) address bytes }
+        ensures after { self.new
+            ≡ (if all_allowed (writable_at image.now) address bytes then record self.old { bytes = bytes_stored image.now self.old.bytes address bytes value } else self.old) }
+    {
+        if let Some(index) = image.writable_run(address, bytes) {
+            self.set_value(index, bytes, value);
+            return true;
+        }
+        if !all_writable(image, address, bytes) {
+            return false;
+        }
+        self.store_bytes(image, address, bytes, value);
+        true
     }
 
     fn go(&mut self, touch: Touch, next: u32) -> Option<Record>
@@ -247,10 +329,9 @@ impl Machine {
         ensures after { self.new ≡ (steps.load image.now self.old rd address bytes signed).after }
         ensures seen { result ≡ (steps.load image.now self.old rd address bytes signed).seen }
     {
-        if !all_readable(image, address, bytes) {
+        let Some(value) = self.read(image, address, bytes) else {
             return self.fault(Touch::Load(address));
-        }
-        let value = self.loaded(image, address, bytes);
+        };
         self.set_register(rd, extend(value, bytes, signed));
         let next = self.following();
         self.go(Touch::Load(address), next)
@@ -258,14 +339,14 @@ impl Machine {
 
     #[tactic(auto, unfolding(crate::specs::Step::store))]
     fn store(&mut self, image: &Image, address: u32, bytes: u32, value: u32) -> Option<Record>
-        requires { length self.old.bytes ≡ size_of image.now }
+        requires size { length self.old.bytes ≡ size_of image.now }
+        requires access { IsAccessSize bytes }
         ensures after { self.new ≡ (steps.store image.now self.old address bytes value).after }
         ensures seen { result ≡ (steps.store image.now self.old address bytes value).seen }
     {
-        if !all_writable(image, address, bytes) {
+        if !self.write(image, address, bytes, value) {
             return self.fault(Touch::Store(address));
         }
-        self.store_bytes(image, address, bytes, value);
         let next = self.following();
         self.go(Touch::Store(address), next)
     }

@@ -1,8 +1,8 @@
 use Rattle.std.proofs.Common.{◌≡◌, map, ap, Err, Some, rules}
 use Rattle.std.specs.String.{string_bytes}
-use Rattle.ct_lines.specs.Commands.{command_of}
+use Rattle.ct_lines.specs.Commands.{command_of, binary_of}
 use Rattle.ct_main.specs.Outside.{Reading, WasRead}
-use Rattle.ct_main.specs.Causes.{binary_of, entry_of, bound_of, IsJobOf, IsTableOf, Checked}
+use Rattle.ct_main.specs.Causes.{FileRead}
 use Rattle.ct_main.proofs.Answering.{answer_after}
 use Rattle.ct_main.proofs.LongFile.{told_long}
 use Rattle.ct_main.proofs.program.ctrel.Goals as goal
@@ -17,8 +17,6 @@ pub returns-clause-answer : goal.returns-clause-answer
 returns-clause-answer g c =
     let command = c.in-Ok.command in
     let bytes = c.in-Ok-read_all.bytes.items in
-    let job = c.in-Ok-job_of.job in
-    let table = c.in-Ok-byte_check.table in
     let reading : Reading = record {
       files = g.F.Shelf.files c.args.shelf.now;
       given = g.F.Shelf.given c.read_all.new.shelf;
@@ -27,14 +25,5 @@ returns-clause-answer g c =
     } in
     let accepted : command_of (map string_bytes c.args.words.now) ≡ Some command = c.in-Ok.ensures.accepted in
     let read : WasRead reading (binary_of command) bytes = search rules in
-    let job_is : IsJobOf bytes (entry_of command) (bound_of command) job = search rules in
-    let table_is : IsTableOf job table = search rules in
-    let checked : Checked (command_of (map string_bytes c.args.words.now)) reading job table = record {
-      command = command;
-      bytes = bytes;
-      accepted = accepted;
-      read = read;
-      job_is = job_is;
-      table_is = table_is;
-    } in
-    rw c.checked.ensures (answer_after _ reading _ job table c.write_report-refusal.result checked c.write_report-refusal.ensures)
+    let file : FileRead (command_of (map string_bytes c.args.words.now)) reading command bytes = record { accepted = accepted; read = read } in
+    rw c.ended.ensures (answer_after _ reading _ command bytes c.make-table.result c.write_made-refusal.result file c.make-table.ensures c.write_made-refusal.ensures)

@@ -1,0 +1,12 @@
+//! The trace of a run and the words of an image, as texts of lines.
+#![tactic(auto)]
+
+mod digits;
+mod list;
+mod trace;
+
+pub use list::list_text;
+pub use trace::trace_text;
+
+#[cfg(test)]
+mod tests;
