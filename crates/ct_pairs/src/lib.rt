@@ -5,6 +5,7 @@
 mod byte_jobs;
 mod byte_table;
 mod checking;
+mod entry;
 mod found;
 mod input_byte;
 mod job;
@@ -24,6 +25,7 @@ mod survey;
 pub use byte_jobs::byte_job;
 pub use byte_table::ByteTable;
 pub use checking::byte_check;
+pub use entry::Entry;
 pub use found::Found;
 pub use input_byte::InputByte;
 pub use job::Job;

@@ -12,6 +12,7 @@ mod text;
 pub use decoding::decode;
 pub use encoding::encode;
 pub use instr::Instr;
+pub use names::register as register_name;
 pub use table::table_agrees;
 pub use text::text_of;
 

@@ -4,6 +4,7 @@ ghost use Rattle.rv_decode.specs.Text as names;
 
 use ct_words::{AluOp, Cond};
 
+/// The name of a register in the ABI (RISC-V psABI, "Integer Register Convention").
 pub fn register(number: u32) -> &'static str
     requires { number < 32 }
     ensures { result.now ≡ names.register_text number }

@@ -1,0 +1,8 @@
+use ct_rows::Text;
+
+/// Where a routine begins: an address, or the name of a symbol.
+#[derive(Debug, Drop, PartialEq, Eq, Hash)]
+pub enum Entry {
+    Number(u32),
+    Name(Text),
+}
