@@ -1,4 +1,4 @@
-//! The definitions of words, instructions, texts and runs, computed on worked values.
+//! The definitions of words, instructions, texts, runs and policies, computed on worked values.
 //!
 //! It has no code: `proofs/` holds the computations, which the check makes.
 #![tactic(auto)]

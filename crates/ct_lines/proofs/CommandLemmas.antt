@@ -1,8 +1,9 @@
--- Which lists of words stand for no command.
-use Rattle.std.proofs.Common.{◌≡◌, ℕ, ◌<◌, ◌⊎◌, List, [], ◌∷◌, length, None, refl, arith}
-use Rattle.ct_lines.specs.Commands.{run_of, file_of}
+-- When the words of a routine are refused, and three words by their places.
+use Rattle.std.proofs.Common.{◌≡◌, ℕ, ◌<◌, ◌⊎◌, List, [], ◌∷◌, get_or, length, Option, None, Some, refl, arith}
+use Rattle.ct_pairs.specs.declared.entry.Entry.{Entry}
+use Rattle.ct_lines.specs.Commands.{run_from, run_of}
 
--- `byte` and `trace` take three further words
+-- a routine has three words
 pub run_of-other : (words : List (List ℕ)) → (length words < 3) ⊎ (3 < length words) → run_of words ≡ None
 run_of-other [] h = refl
 run_of-other (a ∷ []) h = refl
@@ -10,8 +11,15 @@ run_of-other (a ∷ b ∷ []) h = refl
 run_of-other (a ∷ b ∷ c ∷ []) h = grind arith
 run_of-other (a ∷ b ∷ c ∷ d ∷ rest) h = refl
 
--- `list` takes one
-pub file_of-other : (words : List (List ℕ)) → (length words < 1) ⊎ (1 < length words) → file_of words ≡ None
-file_of-other [] h = refl
-file_of-other (a ∷ []) h = grind arith
-file_of-other (a ∷ b ∷ rest) h = refl
+-- where its name and its bound say something, it is refused for its entry alone
+pub run_from-none : (binary : List ℕ) (bound : ℕ) (entry : Option Entry) → run_from (Some binary) (Some bound) entry ≡ None → entry ≡ None
+run_from-none binary bound None h = refl
+run_from-none binary bound (Some entry) h = cc
+
+-- a list of three, by its items
+pub three_items : {A : Type 0} (xs : List A) (x y z : A) → length xs ≡ 3 → x ≡ get_or xs 0 x → y ≡ get_or xs 1 y → z ≡ get_or xs 2 z → xs ≡ x ∷ y ∷ z ∷ []
+three_items [] x y z h first second third = grind arith
+three_items (a ∷ []) x y z h first second third = grind arith
+three_items (a ∷ b ∷ []) x y z h first second third = grind arith
+three_items (a ∷ b ∷ c ∷ []) x y z h first second third = cc
+three_items (a ∷ b ∷ c ∷ d ∷ rest) x y z h first second third = grind arith

@@ -1,3 +1,4 @@
 pub mod NumeralLemmas
+pub mod CheckLemmas
 pub mod CommandLemmas
 pub mod CommandExamples

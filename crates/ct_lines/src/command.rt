@@ -1,3 +1,4 @@
+use ct_pairs::Entry;
 use ct_rows::Text;
 
 /// What the program is asked to do.
@@ -7,17 +8,41 @@ pub enum Command {
     Byte {
         /// The name of the ELF file.
         binary: Text,
-        /// The address of the routine's first instruction.
-        entry: u32,
+        /// Where the routine begins.
+        entry: Entry,
         /// The greatest number of steps of a run.
         bound: u32,
+    },
+    /// Check a routine under a policy.
+    Check {
+        /// The name of the ELF file.
+        binary: Text,
+        /// The name of the policy's file.
+        policy: Text,
+        /// The greatest number of steps of a run; without one the policy's holds.
+        bound: Option<u32>,
+        /// How many workers share the control paths.
+        workers: u32,
+        /// The greatest number of clauses that the solver derives for one question.
+        budget: u64,
+        /// The greatest number of targets that are explored of one jump.
+        targets: u32,
+    },
+    /// Run both starts of a pair and show where they first differ.
+    Replay {
+        /// The name of the ELF file.
+        binary: Text,
+        /// The name of the policy's file.
+        policy: Text,
+        /// The name of the pair's file.
+        pair: Text,
     },
     /// Show each step of a routine whose one input byte is 0.
     Trace {
         /// The name of the ELF file.
         binary: Text,
-        /// The address of the routine's first instruction.
-        entry: u32,
+        /// Where the routine begins.
+        entry: Entry,
         /// The greatest number of steps of the run.
         bound: u32,
     },
@@ -26,20 +51,11 @@ pub enum Command {
         /// The name of the ELF file.
         binary: Text,
     },
-}
-
-impl Command {
-    ghost use Rattle.std.specs.Prelude.{◌≡◌};
-    ghost use Rattle.ct_lines.specs.Commands.{binary_of};
-
-    /// The name of the ELF file.
-    pub fn binary(&self) -> &Text
-        ensures { result.now ≡ binary_of self.now }
-    {
-        match self {
-            Command::Byte { binary, .. } => binary,
-            Command::Trace { binary, .. } => binary,
-            Command::List { binary } => binary,
-        }
-    }
+    /// Check a generated routine.
+    Gen {
+        /// The number that the routine is generated from.
+        number: u32,
+        /// How many blocks of code the routine has.
+        size: u32,
+    },
 }

@@ -1,3 +1,4 @@
+use ct_pairs::Entry;
 use ct_rows::Text;
 
 /// A routine of a file, and how far to run it.
@@ -5,8 +6,8 @@ use ct_rows::Text;
 pub(crate) struct Run {
     /// The name of the ELF file.
     pub binary: Text,
-    /// The address of the routine's first instruction.
-    pub entry: u32,
+    /// Where the routine begins.
+    pub entry: Entry,
     /// The greatest number of steps of a run.
     pub bound: u32,
 }

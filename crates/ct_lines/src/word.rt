@@ -1,6 +1,11 @@
-ghost use Rattle.std.specs.Prelude.{◌≡◌, ◌<◌, ◌≤◌, ◌^◌, IfSome};
+ghost use Rattle.std.specs.Prelude.{◌≡◌, ◌↔◌, ◌<◌, ◌≤◌, ◌^◌, None, Some, IfSome, IfOk};
 ghost use Rattle.std.specs.Option.{option_copied};
-ghost use Rattle.ct_lines.specs.Words.{numeral_of, number_of, hexadecimal_of, entry_of, name_of};
+ghost use Rattle.ct_lines.specs.Words.{IsWithin, numeral_of, number_of, hexadecimal_of, address_of, entry_name_of, entry_of, name_of};
+
+use crate::words_refusal::WordsRefusal;
+use ct_pairs::Entry;
+use ct_rows::Text;
+use std::alloc::{AllocError, Global};
 
 /// The number that at most `most` digits of the radix write.
 fn read_numeral(word: &[u8], radix: u32, most: usize) -> Option<u64>
@@ -24,7 +29,7 @@ fn read_numeral(word: &[u8], radix: u32, most: usize) -> Option<u64>
 /// The number of a number word within a range.
 pub fn read_number(word: &str, low: u32, high: u32) -> Option<u32>
     ensures value { result ≡ number_of low high word.now }
-    ensures within { IfSome result (λ number. (low ≤ number) × (number ≤ high)) }
+    ensures within { IfSome result (IsWithin low high) }
 {
     let value = read_numeral(word.as_bytes(), 10, 10)?;
     if value < u64::from(low) || u64::from(high) < value {
@@ -42,12 +47,12 @@ fn read_hexadecimal(word: &str) -> Option<u32>
     Some(value as u32)
 }
 
-/// The address of an entry word.
-pub fn read_entry(word: &str) -> Option<u32>
-    ensures { result ≡ entry_of word.now }
+/// The address of an address word.
+fn read_address(word: &str) -> Option<u32>
+    ensures { result ≡ address_of word.now }
 {
     match read_number(word, 0, u32::MAX) {
-        Some(entry) => Some(entry),
+        Some(address) => Some(address),
         None => read_hexadecimal(word),
     }
 }
@@ -61,4 +66,33 @@ pub fn read_name(word: &str) -> Option<&str>
     } else {
         Some(word)
     }
+}
+
+/// The name of an entry that is named.
+fn read_entry_name(word: &str) -> Option<&str>
+    ensures { option_copied result ≡ entry_name_of word.now }
+{
+    match word.as_bytes() {
+        [first, ..] if char::from(*first).is_digit(10) => None,
+        _ => read_name(word),
+    }
+}
+
+/// Where the routine of an entry word begins.
+pub fn read_entry(alloc: Global, word: &str) -> Result<Entry, WordsRefusal>
+    ensures accepted { IfOk result (λ entry. entry_of word.now ≡ Some entry) }
+    ensures refused { (result ≡ Err WordsRefusal.Refused) ↔ (entry_of word.now ≡ None) }
+{
+    if let Some(address) = read_address(word) {
+        return Ok(Entry::Number(address));
+    }
+    let name = read_entry_name(word).ok_or(WordsRefusal::Refused)?;
+    Ok(Entry::Name(kept(alloc, name)?))
+}
+
+/// The name in memory of its own.
+pub fn kept(alloc: Global, name: &str) -> Result<Text, AllocError>
+    ensures { IfOk result (λ text. text ≡ name.now) }
+{
+    Ok(Text::from_string(String::from_str(alloc, name)?))
 }

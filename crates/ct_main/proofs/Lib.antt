@@ -1,3 +1,6 @@
 pub mod Answering
-pub mod Checking
-pub mod LongFile
+pub mod Asking
+pub mod Checks
+pub mod Counting
+pub mod Holding
+pub mod Makes

@@ -1,6 +1,7 @@
 pub mod FindingStatus
 pub mod Status
 pub mod Outside
+pub mod Contents
 pub mod Texts
 pub mod Causes
 pub mod Complete

@@ -1,5 +1,5 @@
 -- What a call of the program does with its shelf and its sink.
-use Rattle.std.specs.Prelude.{◌≡◌, ◌<◌, ◌≤◌, ◌^◌, ℕ, List, length, take, Option, Some, IfSome}
+use Rattle.std.specs.Prelude.{◌≡◌, ◌<◌, ◌≤◌, ◌^◌, ℕ, List, length, take, Option, Some, IfSome, IsSomeAnd}
 use Rattle.ct_outside.specs.Count.{Rose}
 use Rattle.ct_outside.specs.Told.{told_append}
 
@@ -32,10 +32,10 @@ pub record WasRead (reading : Reading) (name bytes : List ℕ) : Type 0 where
   pub given : reading.given ≡ length bytes
   pub short : length bytes ≤ 2 ^ 26
 
--- the shelf gave more than 2^26 bytes, which the file of this name has where the shelf tells its files
+-- the shelf gave more than 2^26 bytes of the file of this name, which has them where the shelf tells its files
 pub record WasLong (reading : Reading) (name : List ℕ) : Type 0 where
   pub given : 2 ^ 26 < reading.given
-  pub own : IfSome reading.files (λ known. IfSome (known name) (λ bytes. 2 ^ 26 < length bytes))
+  pub own : IfSome reading.files (λ known. IsSomeAnd (known name) (λ bytes. 2 ^ 26 < length bytes))
 
 -- reading failed, after at most 2^26 bytes
 pub record WasCutOff (reading : Reading) : Type 0 where

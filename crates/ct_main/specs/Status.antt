@@ -4,15 +4,16 @@ use Rattle.std.specs.Option.{option_map_or}
 use Rattle.ct_pairs.specs.declared.byte_table.ByteTable.{ByteTable}
 use Rattle.ct_report.specs.Report.{finding_of}
 use Rattle.ct_main.specs.declared.refusal.Refusal.{Refusal}
-use Rattle.ct_main.specs.declared.refusal.Refusal.TheVariants.{Words, Elf, Entry, Long, Memory, ReadFault, WriteFault}
+use Rattle.ct_main.specs.declared.refusal.Refusal.TheVariants.{Words, Elf, Policy, Long, Later, Memory, ReadFault, WriteFault}
 use Rattle.ct_main.specs.FindingStatus.{finding_status}
 
 -- the status of a refusal
 abbrev pub refusal_status : Refusal → ℕ
 refusal_status Words = 64
 refusal_status (Elf refusal) = 65
-refusal_status Entry = 66
+refusal_status (Policy refusal) = 66
 refusal_status Long = 67
+refusal_status Later = 69
 refusal_status Memory = 70
 refusal_status ReadFault = 74
 refusal_status WriteFault = 75

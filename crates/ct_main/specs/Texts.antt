@@ -1,30 +1,30 @@
 -- The text for which a command asks.
-use Rattle.std.specs.Prelude.{◌≡◌, ℕ, List, [], All, Option, None, IsSome, IsSomeAnd}
-use Rattle.elf_load.specs.Loading.{elf_of}
-use Rattle.rv_image.specs.Cell.{Cell}
-use Rattle.rv_image.specs.Image.{fetch_at}
+use Rattle.std.specs.Prelude.{◌≡◌, ℕ, List, [], All, Option, None, IsSomeAnd}
 use Rattle.rv_image.specs.Loading.{cells_of}
 use Rattle.ct_lines.specs.declared.command.Command.{Command}
-use Rattle.ct_lines.specs.declared.command.Command.TheVariants.{Byte, Trace, List as Listing}
+use Rattle.ct_lines.specs.declared.command.Command.TheVariants.{Byte, Check, Replay, Trace, List as Listing, Gen}
 use Rattle.ct_pairs.specs.declared.job.Job.{Job}
 use Rattle.ct_pairs.specs.declared.byte_table.ByteTable.{ByteTable}
-use Rattle.ct_pairs.specs.ByteJob.{IsByteJob}
 use Rattle.ct_pairs.specs.Sites.{AreLeakSites}
 use Rattle.ct_pairs.specs.LeastPair.{IsLeastPair}
 use Rattle.ct_pairs.specs.Paths.{path_count}
 use Rattle.ct_pairs.specs.Covered.{sites_of, CoversPairs}
+use Rattle.ct_policy.specs.ByteJob.{IsByteJobAt}
+use Rattle.ct_policy.specs.Job.{IsJobOfBytes}
 use Rattle.ct_report.specs.Report.{report_of}
 use Rattle.ct_listing.specs.Trace.{trace_of}
 use Rattle.ct_listing.specs.List.{list_of}
+use Rattle.ct_main.specs.Contents.{Contents, program_of, policy_bytes}
 
--- the memory with which a file's program starts
-abbrev pub image_of : List ℕ → List Cell
-image_of bytes = cells_of (elf_of bytes) []
-
--- the job of a routine: its entry can be fetched, and one byte in a0 is secret
-pub record IsJobAt (image : List Cell) (entry bound : ℕ) (job : Job) : Type 0 where
-  pub can_start : IsSome (fetch_at image entry)
-  pub job_is : IsByteJob job image entry bound
+-- the job of a command and its files: that of one secret byte at the entry, or that of the policy
+abbrev pub IsJobFor : Command → Contents → Job → Type 0
+IsJobFor (Byte binary entry bound) contents job = IsByteJobAt (program_of contents) entry bound job
+IsJobFor (Check binary policy bound workers budget targets) contents job =
+    IsJobOfBytes (program_of contents) (record { bound = bound; budget = budget; targets = targets }) (policy_bytes contents) job
+IsJobFor (Replay binary policy pair) contents job = ⊥
+IsJobFor (Trace binary entry bound) contents job = IsByteJobAt (program_of contents) entry bound job
+IsJobFor (Listing binary) contents job = ⊥
+IsJobFor (Gen number size) contents job = ⊥
 
 -- the table of a job: its sites and steps are exactly the leak sites, each found pair is the least that splits there, all finished control paths are counted, and so every pair is covered
 pub record IsTableOf (job : Job) (table : ByteTable) : Type 0 where
@@ -33,33 +33,41 @@ pub record IsTableOf (job : Job) (table : ByteTable) : Type 0 where
   pub paths : table.paths ≡ path_count job
   pub covered : CoversPairs job table.sites
 
--- the table of a routine's job
-pub record IsCheck (image : List Cell) (entry bound : ℕ) (table : ByteTable) : Type 0 where
+-- the table of the command's job
+pub record IsCheck (command : Command) (contents : Contents) (table : ByteTable) : Type 0 where
   pub job : Job
-  pub job_at : IsJobAt image entry bound job
+  pub job_is : IsJobFor command contents job
   pub table_is : IsTableOf job table
 
--- the report of a routine's job and its table
-pub record IsReport (image : List Cell) (entry bound : ℕ) (table : ByteTable) (text : List ℕ) : Type 0 where
+-- the report of the command's job and its table
+pub record IsReport (command : Command) (contents : Contents) (table : ByteTable) (text : List ℕ) : Type 0 where
   pub job : Job
-  pub job_at : IsJobAt image entry bound job
+  pub job_is : IsJobFor command contents job
   pub table_is : IsTableOf job table
   pub text_is : text ≡ report_of job table
 
--- the trace of a routine's job
-pub record IsTrace (image : List Cell) (entry bound : ℕ) (text : List ℕ) : Type 0 where
+-- the trace of the command's job
+pub record IsTrace (command : Command) (contents : Contents) (text : List ℕ) : Type 0 where
   pub job : Job
-  pub job_at : IsJobAt image entry bound job
+  pub job_is : IsJobFor command contents job
   pub text_is : text ≡ trace_of job
 
--- the table for which a command asks
-abbrev pub IsTableFor : Command → List Cell → ByteTable → Type 0
-IsTableFor (Byte binary entry bound) image table = IsCheck image entry bound table
-IsTableFor (Trace binary entry bound) image table = ⊥
-IsTableFor (Listing binary) image table = ⊥
+-- the command asks for a check
+abbrev pub IsChecking : Command → Type 0
+IsChecking (Byte binary entry bound) = Unit {0}
+IsChecking (Check binary policy bound workers budget targets) = Unit {0}
+IsChecking (Replay binary policy pair) = ⊥
+IsChecking (Trace binary entry bound) = ⊥
+IsChecking (Listing binary) = ⊥
+IsChecking (Gen number size) = ⊥
 
 -- the text for which a command asks: a check's report with its table, a trace, or a list of words
-abbrev pub IsTextOf : Command → List Cell → Option ByteTable → List ℕ → Type 0
-IsTextOf (Byte binary entry bound) image table text = IsSomeAnd table (λ found. IsReport image entry bound found text)
-IsTextOf (Trace binary entry bound) image table text = (table ≡ None) × IsTrace image entry bound text
-IsTextOf (Listing binary) image table text = (table ≡ None) × (text ≡ list_of image)
+abbrev pub IsTextOf : Command → Contents → Option ByteTable → List ℕ → Type 0
+IsTextOf (Byte binary entry bound) contents table text =
+    IsSomeAnd table (λ found. IsReport (Byte binary entry bound) contents found text)
+IsTextOf (Check binary policy bound workers budget targets) contents table text =
+    IsSomeAnd table (λ found. IsReport (Check binary policy bound workers budget targets) contents found text)
+IsTextOf (Replay binary policy pair) contents table text = ⊥
+IsTextOf (Trace binary entry bound) contents table text = (table ≡ None) × IsTrace (Trace binary entry bound) contents text
+IsTextOf (Listing binary) contents table text = (table ≡ None) × (text ≡ list_of (cells_of (program_of contents) []))
+IsTextOf (Gen number size) contents table text = ⊥

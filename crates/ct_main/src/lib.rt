@@ -1,13 +1,14 @@
 //! The program as one call: words, files and an output in, a text and a status out.
 #![tactic(auto)]
 
+mod checking;
+mod file;
 mod finished;
-mod image_file;
 mod made;
 mod making;
 mod program;
 mod refusal;
-mod routine;
+mod showing;
 mod text_out;
 
 pub use finished::Finished;

@@ -11,15 +11,15 @@ use crate::making::make;
 use crate::refusal::Refusal;
 use crate::text_out::write_made;
 use ct_lines::{WordsRefusal, read_words};
-use ct_outside::{ReadEnd, Shelf, Sink, read_all};
+use ct_outside::{Shelf, Sink};
 use std::alloc::Global;
 
 /// Runs the program on the words after its name.
 ///
-/// It reads the file that the words name, does what they ask, makes the whole text and then
+/// It reads the files that the words name, does what they ask, makes the whole text and then
 /// writes it; what it answers is the status to end with, the table of a check, and the refusal to
 /// print. Its time and its memory are those of `byte_check`, `trace_text` or `list_text`, beside
-/// the file, its image and the text.
+/// the files, the image and the text.
 pub fn ctrel<F: Shelf, S: Sink>(
     alloc: Global,
     words: &[String],
@@ -53,17 +53,7 @@ pub fn ctrel<F: Shelf, S: Sink>(
         Err(WordsRefusal::Memory) => return Finished::refused(Refusal::Memory),
         Err(WordsRefusal::Refused) => return Finished::refused(Refusal::Words),
     };
-    let name = match command.binary().copy(alloc) {
-        Ok(name) => name,
-        Err(_) => return Finished::refused(Refusal::Memory),
-    };
-    let bytes = match read_all(alloc, shelf, name.into_string()) {
-        Ok(bytes) => bytes,
-        Err(ReadEnd::Memory) => return Finished::refused(Refusal::Memory),
-        Err(ReadEnd::Fault) => return Finished::refused(Refusal::ReadFault),
-        Err(ReadEnd::Long) => return Finished::refused(Refusal::Long),
-    };
-    let Made { table, text } = make(alloc, &command, bytes);
+    let Made { table, text } = make(alloc, shelf, &command);
     let refusal = write_made(text, out);
     Finished::ended(table, refusal)
 }

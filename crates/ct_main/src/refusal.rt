@@ -1,6 +1,7 @@
 ghost use Rattle.std.specs.Prelude.{◌≡◌};
 ghost use Rattle.ct_main.specs.declared.refusal.Refusal.TheVariants.{Memory};
 
+use ct_policy::PolicyRefusal;
 use elf_load::ElfRefusal;
 use std::alloc::AllocError;
 use thiserror::Error;
@@ -15,16 +16,19 @@ pub enum Refusal {
     /// The file is no static RV32IM executable.
     #[error("elf {0}")]
     Elf(ElfRefusal),
-    /// No instruction can be fetched at the entry.
-    #[error("policy P10")]
-    Entry,
-    /// The file has more than 2^26 bytes.
+    /// The policy, or the entry of a routine, meets not every rule.
+    #[error("policy {0}")]
+    Policy(PolicyRefusal),
+    /// A file has more than 2^26 bytes.
     #[error("long")]
     Long,
+    /// The command, or a check of other inputs than one secret byte, isn't built yet.
+    #[error("later")]
+    Later,
     /// There was no memory.
     #[error("memory")]
     Memory,
-    /// The file isn't there, or reading it failed.
+    /// A file isn't there, or reading it failed.
     #[error("read")]
     ReadFault,
     /// The output failed; what it took is a front of the text.
@@ -42,8 +46,9 @@ impl Refusal {
         match self {
             Refusal::Words => 64,
             Refusal::Elf(_) => 65,
-            Refusal::Entry => 66,
+            Refusal::Policy(_) => 66,
             Refusal::Long => 67,
+            Refusal::Later => 69,
             Refusal::Memory => 70,
             Refusal::ReadFault => 74,
             Refusal::WriteFault => 75,

@@ -7,6 +7,7 @@ ghost use Rattle.ct_main.specs.Status.{status_of};
 
 mod words;
 
+use ct_lines::usage_text;
 use ct_main::{Finished, Refusal, ctrel};
 use ct_outside::{RealShelf, RealSink};
 use std::process::ExitCode;
@@ -28,12 +29,23 @@ fn run(rt: &HostRuntime) -> Finished
     ctrel(rt.alloc(), words.as_slice(), &mut shelf, &mut out)
 }
 
-/// Prints the refusal's line, if there is one, and gives the status to end with.
+/// Prints how the program is called, unless there is no memory for it.
+fn print_usage(rt: &HostRuntime) {
+    if let Ok(usage) = usage_text(rt.alloc()) {
+        let _ = eprint!(rt; "{usage}");
+    }
+}
+
+/// Prints the refusal's line, if there is one, after refused words the usage too, and gives the
+/// status to end with.
 fn finish(rt: &HostRuntime, finished: Finished) -> ExitCode
     ensures { exit_status result ≡ finished.status }
 {
     if let Some(refusal) = finished.refusal {
         let _ = eprintln!(rt; "ctrel: {refusal}");
+        if refusal == Refusal::Words {
+            print_usage(rt);
+        }
     }
     ExitCode::from(finished.status)
 }

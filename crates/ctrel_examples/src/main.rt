@@ -7,12 +7,16 @@ use std::alloc::{AllocError, Global};
 use std::io;
 use std::process::ExitCode;
 
-const COMMANDS: [&str; 5] = [
+const COMMANDS: [&str; 9] = [
     "byte decode_table.elf 0x10000 100",
     "byte decode_branch.elf 0x10000 100",
     "byte decode_constant.elf 0x10000 100",
     "list decode_constant.elf",
     "trace decode_table.elf 0x10000 10",
+    "byte decode_branch.elf decode_digit 100",
+    "check decode_table.elf decode_table.toml",
+    "check decode_constant.elf decode_constant.toml",
+    "check decode_memory.elf decode_memory.toml",
 ];
 
 /// The words of a command.

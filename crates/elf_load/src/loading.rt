@@ -74,7 +74,8 @@ fn segments_of(
 /// Loads a static RISC-V executable (System V ABI, RISC-V psABI) from the bytes of its file.
 ///
 /// Damaged section, symbol or string tables leave the executable without symbols, and are no
-/// reason to refuse it.
+/// reason to refuse it. Time and memory grow with the file's bytes, the segments' sizes and the
+/// names, which may overlap; names of more than 2^28 bytes together are want of memory.
 pub fn load(alloc: Global, bytes: &[u8]) -> Result<Elf, ElfRefusal>
     // The file meets E1 to E13, and the executable is the one for which it stands.
     ensures loaded { IfOk result (λ elf. (first_refusal bytes.now ≡ None) × (elf ≡ elf_of bytes.now)) }

@@ -11,6 +11,10 @@ use crate::symbol_entry::SymbolEntry;
 use ct_rows::Text;
 use std::alloc::{AllocError, Global};
 
+/// The most bytes that names may take together. Names may overlap, so a small file can have names
+/// that no memory holds: those of a file that needs more are answered as want of memory.
+const NAME_BYTES: usize = 1 << 28;
+
 fn has_section_table(size: usize, header: &FileHeader) -> bool
     ensures { result ≡ has_section_table size header.now }
 {
@@ -155,6 +159,23 @@ fn symbols_in(alloc: Global, table: &[u8], strings: &[u8]) -> Result<Vec<Symbol>
     Ok(symbols)
 }
 
+/// Whether the names take at most `NAME_BYTES` together. It looks at no more bytes than that.
+fn names_fit(table: &[u8], strings: &[u8]) -> bool {
+    let mut left = NAME_BYTES;
+    for index in 0..table.len() / SymbolEntry::SIZE {
+        let entry = SymbolEntry::read(table, SymbolEntry::SIZE * index);
+        let offset = (entry.name as usize).min(strings.len());
+        let rest = &strings[offset..];
+        let seen = &rest[..rest.len().min(left)];
+        let length = name_length(seen).unwrap_or(seen.len());
+        if length == left {
+            return false;
+        }
+        left -= length;
+    }
+    true
+}
+
 /// The kept symbols of a file; none where its tables are damaged.
 #[tactic(auto, unfolding(crate::specs::Symbols::symbols_of))]
 pub(crate) fn symbols_of(
@@ -171,9 +192,10 @@ pub(crate) fn symbols_of(
     let Some(strings) = string_section(bytes, header, &table) else {
         return Ok(Vec::new(alloc));
     };
-    symbols_in(
-        alloc,
-        section_bytes(bytes, &table),
-        section_bytes(bytes, &strings),
-    )
+    let table = section_bytes(bytes, &table);
+    let strings = section_bytes(bytes, &strings);
+    if !names_fit(table, strings) {
+        return Err(AllocError);
+    }
+    symbols_in(alloc, table, strings)
 }

@@ -1,0 +1,17 @@
+use Rattle.std.proofs.Common.{refl, None}
+use Rattle.ct_lines.specs.declared.command.Command.TheVariants.{List}
+use Rattle.ct_main.proofs.Asking.{asked_made, asked_ok}
+use Rattle.ct_main.proofs.Makes.{list_made, list_unopened}
+use Rattle.ct_main.proofs.making.make_list.Goals as goal
+
+pub returns-in-Err-clause-made : goal.returns-in-Err-clause-made
+returns-in-Err-clause-made g c = rw c.refused.ensures (list_unopened _ c.args.binary.now c.in-Err.refusal c.in-Err.ensures.opened)
+
+pub returns-in-Ok-clause-made : goal.returns-in-Ok-clause-made
+returns-in-Ok-clause-made g c =
+    rw c.without_table.ensures (list_made _ c.args.binary.now c.in-Ok.elf c.list.result c.in-Ok.ensures.opened c.list.ensures)
+
+pub returns-in-Ok-clause-asks : goal.returns-in-Ok-clause-asks
+returns-in-Ok-clause-asks g c =
+    let made = list_made _ c.args.binary.now c.in-Ok.elf c.list.result c.in-Ok.ensures.opened c.list.ensures in
+    rw c.without_table.ensures (asked_made _ (List c.args.binary.now) c.args.binary.now _ _ (record { table = None; text = c.list.result }) refl tt made (asked_ok c.in-Ok.elf _ _ c.in-Ok.ensures.asks))

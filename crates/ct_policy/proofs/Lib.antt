@@ -1,0 +1,10 @@
+mod Cells
+mod Covering
+mod Fitting
+mod Inputs
+mod JobLemmas
+mod Lists
+mod Meeting
+mod NumberLemmas
+mod Overlaps
+mod RegisterLemmas
