@@ -1,3 +1,4 @@
+pub mod Arithmetic
 pub mod Instructions
 pub mod Policies
 pub mod Runs
