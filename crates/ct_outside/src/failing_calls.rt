@@ -1,3 +1,5 @@
+//! Calls counted from 0, of which chosen ones fail.
+
 ghost use Rattle.std.specs.Prelude.{◌≡◌};
 ghost use Rattle.ct_outside.specs.Calls.{is_listed};
 ghost use Rattle.ct_outside.specs.Count.{raised_by};

@@ -18,10 +18,10 @@ pub use failed::Failed;
 pub use memory_shelf::MemoryShelf;
 pub use memory_sink::MemorySink;
 pub use never_shelf::NeverShelf;
-pub use reading::{ReadEnd, read_all};
+pub use reading::{LONGEST, ReadEnd, read_all};
 pub use real_shelf::RealShelf;
 pub use real_sink::RealSink;
-pub use shelf::Shelf;
+pub use shelf::{NAMES, Shelf};
 pub use sink::Sink;
 pub use writing::{WriteEnd, write_all};
 

@@ -1,3 +1,5 @@
+//! A shelf of files in memory, with faults where a test wants them.
+
 ghost use Rattle.std.specs.Prelude.{◌≡◌, ◌<◌, ◌≤◌, ◌∷◌, ◌++◌, ◌&&◌, [], Some, length, take, drop, min, not, string_bytes, is_ok, is_some, unwrap_or, IfOk, OnOk, OnErr};
 ghost use Rattle.ct_outside.specs.Calls.{is_listed};
 ghost use Rattle.ct_outside.specs.Count.{raised_by};
@@ -5,7 +7,7 @@ ghost use Rattle.ct_outside.specs.Files.{file_of, named};
 
 use crate::failing_calls::FailingCalls;
 use crate::named_files::NamedFiles;
-use crate::{Failed, Shelf};
+use crate::{Failed, NAMES, Shelf};
 use std::alloc::{AllocError, Global};
 use std::marker::Model;
 
@@ -88,7 +90,7 @@ impl Shelf for MemoryShelf {
     ghost faults = { λ s. s.faults };
 
     fn begin(&mut self, name: String) -> Result<(), Failed>
-        requires { length self.old.asked < 16 }
+        requires { length self.old.asked < NAMES }
         ensures answers { is_ok result ≡ (not (is_listed self.old.failing self.old.calls)
             && is_some (file_of self.old.files (string_bytes name))) }
         ensures ok { OnOk result (self.new ≡ record self.old {

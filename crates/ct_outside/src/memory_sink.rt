@@ -1,3 +1,5 @@
+//! An output in memory, with faults where a test wants them.
+
 ghost use Rattle.std.specs.Prelude.{◌≡◌, ◌<◌, ◌≤◌, ◌-◌, ◌++◌, ◌&&◌, [], Some, length, take, min, not, nat_lt, is_ok, IfOk, OnErr};
 ghost use Rattle.ct_outside.specs.Calls.{is_listed};
 ghost use Rattle.ct_outside.specs.Count.{raised_by};

@@ -1,12 +1,12 @@
+//! Files in memory by name, as both shelves in memory hold them.
+
 ghost use Rattle.std.specs.Prelude.{◌≡◌, ◌<◌, ◌∷◌, ◌++◌, [], length, take, drop, min, string_bytes, is_some, nat_lt, unwrap_or, slice_index_or, IfOk};
 ghost use Rattle.ct_outside.specs.Count.{raised_by};
 ghost use Rattle.ct_outside.specs.Files.{file_of, named, contents};
 
+use crate::NAMES;
 use std::alloc::{AllocError, Global};
 use std::marker::Model;
-
-// How many names a shelf is asked for at most.
-pub(crate) const NAMES: usize = 16;
 
 /// Files by name, the names that were asked for, and the file begun with the place in it.
 #[derive(Drop)]
@@ -21,6 +21,7 @@ pub(crate) struct NamedFiles {
 impl Model for NamedFiles {
     ghost use Rattle.std.specs.Prelude.{◌≤◌, [], length, drop, slice_index_or, vec_capacity};
     ghost use Rattle.ct_outside.specs.Files.{Named, named, contents, texts};
+    ghost use Rattle.ct_outside.specs.declared.shelf.TheConstants.{NAMES};
 
     ghost Value = { Named };
 
@@ -31,7 +32,7 @@ impl Model for NamedFiles {
       given = a.place;
     } };
 
-    ghost invariant = { λ a. (16 ≤ vec_capacity a.asked)
+    ghost invariant = { λ a. (NAMES ≤ vec_capacity a.asked)
         × (a.place ≤ length (slice_index_or (contents a.files.items) a.begun [])) };
 }
 
@@ -77,7 +78,7 @@ impl NamedFiles {
 
     /// Asks for a name and begins its file. Says whether there is one; if not, none is begun.
     pub(crate) fn begin(&mut self, name: String) -> bool
-        requires { length self.old.asked < 16 }
+        requires { length self.old.asked < NAMES }
         ensures found { result ≡ is_some (file_of self.old.files (string_bytes name)) }
         ensures after { self.new ≡ record self.old {
           asked = self.old.asked ++ string_bytes name ∷ [];
@@ -93,7 +94,7 @@ impl NamedFiles {
 
     /// Asks for a name, and begins no file.
     pub(crate) fn refuse(&mut self, name: String)
-        requires { length self.old.asked < 16 }
+        requires { length self.old.asked < NAMES }
         ensures { self.new ≡ record self.old {
           asked = self.old.asked ++ string_bytes name ∷ [];
           remaining = [];

@@ -1,9 +1,11 @@
+//! A shelf of files in memory that never fails.
+
 ghost use Rattle.std.specs.Prelude.{◌≡◌, ◌<◌, ◌∷◌, ◌++◌, [], Some, length, take, drop, min, string_bytes, unwrap_or, IsOk, IfOk};
 ghost use Rattle.ct_outside.specs.Count.{raised_by};
 ghost use Rattle.ct_outside.specs.Files.{file_of, named};
 
 use crate::named_files::NamedFiles;
-use crate::{Failed, Shelf};
+use crate::{Failed, NAMES, Shelf};
 use std::alloc::{AllocError, Global};
 use std::marker::Model;
 
@@ -23,6 +25,7 @@ impl Model for NeverShelf {
 }
 
 impl NeverShelf {
+    /// The files by their names; none is begun.
     pub fn new(alloc: Global, files: Vec<(String, Vec<u8>)>) -> Result<NeverShelf, AllocError>
         ensures { IfOk result (λ shelf. shelf ≡ record {
           files = named files.items;
@@ -49,7 +52,7 @@ impl Shelf for NeverShelf {
     ghost faults = { λ _. 0 };
 
     fn begin(&mut self, name: String) -> Result<(), Failed>
-        requires { length self.old.asked < 16 }
+        requires { length self.old.asked < NAMES }
         ensures never { IsOk result }
         ensures after { self.new ≡ record self.old {
           asked = self.old.asked ++ string_bytes name ∷ [];

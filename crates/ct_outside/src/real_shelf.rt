@@ -1,7 +1,8 @@
+//! The shelf of the system's files.
+
 ghost use Rattle.std.specs.Prelude.{◌≡◌, [], None, IfOk};
 
-use crate::named_files::NAMES;
-use crate::{Failed, Shelf};
+use crate::{Failed, NAMES, Shelf};
 use std::alloc::{AllocError, Global};
 use std::fs;
 use std::io::Read;
@@ -22,15 +23,17 @@ impl<R: Files + Drop> Model for RealShelf<R> {
     ghost use Rattle.std.specs.Prelude.{◌≤◌, vec_capacity};
     ghost use Rattle.ct_outside.specs.Files.{texts};
     ghost use Rattle.ct_outside.specs.Real.{RealState};
+    ghost use Rattle.ct_outside.specs.declared.shelf.TheConstants.{NAMES};
 
     ghost Value = { RealState };
 
     ghost view = { λ a. record { asked = texts a.asked.items; given = a.given; faults = a.faults } };
 
-    ghost invariant = { λ a. 16 ≤ vec_capacity a.asked };
+    ghost invariant = { λ a. NAMES ≤ vec_capacity a.asked };
 }
 
 impl<R: Files + Drop> RealShelf<R> {
+    /// Over a runtime that may open files; none is begun.
     pub fn new(alloc: Global, rt: R) -> Result<RealShelf<R>, AllocError>
         ensures { IfOk result (λ shelf. shelf ≡ record { asked = []; given = 0; faults = 0 }) }
     {

@@ -1,9 +1,12 @@
+//! The sink over the system's output.
+
 ghost use Rattle.std.specs.Prelude.{◌≡◌, None};
 
 use crate::{Failed, Sink};
 use std::marker::Model;
 
-/// The standard output. It tells no bytes of what was written.
+/// An output of the system: the standard output over the runtime itself, and standard error over
+/// its `stderr()`. It tells no bytes of what was written.
 #[derive(Drop)]
 pub struct RealSink<R: Print + Drop> {
     rt: R,
@@ -20,6 +23,7 @@ impl<R: Print + Drop> Model for RealSink<R> {
 }
 
 impl<R: Print + Drop> RealSink<R> {
+    /// Over what prints, with no fault yet.
     pub fn new(rt: R) -> RealSink<R>
         ensures { result ≡ 0 }
     {

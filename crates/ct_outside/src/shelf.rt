@@ -1,8 +1,13 @@
+//! The trait of what files are read from.
+
 ghost use Rattle.std.specs.Prelude.{◌≡◌, ◌<◌, ◌≤◌, ◌∷◌, ◌++◌, [], ℕ, List, Option, length, take, is_some, string_bytes, IsSome, IfSome, IfOk, OnOk, OnErr};
 ghost use Rattle.ct_outside.specs.Count.{raised_by, Rose};
 ghost use Rattle.ct_outside.specs.Told.{told_prepend};
 
 use crate::Failed;
+
+/// How many names a shelf has room for.
+pub const NAMES: usize = 16;
 
 /// Files by name, of which one at a time is begun and read from front to back.
 pub trait Shelf {
@@ -23,9 +28,9 @@ pub trait Shelf {
     ghost faults: { Self → ℕ };
 
     /// Begins the file of this name at its first byte. A name that isn't there fails, and after a
-    /// failure no file is begun. A shelf has room for 16 names.
+    /// failure no file is begun. A shelf has room for `NAMES` of them.
     fn begin(&mut self, name: String) -> Result<(), Failed>
-        requires { length (asked self.old) < 16 }
+        requires { length (asked self.old) < NAMES }
         ensures asks { asked self.new ≡ asked self.old ++ string_bytes name ∷ [] }
         ensures found { OnOk result (IfSome (files self.old) (λ known. IsSome (known (string_bytes name)))) }
         ensures begun { OnOk result (IfSome (files self.old)

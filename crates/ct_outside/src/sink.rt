@@ -1,3 +1,5 @@
+//! The trait of what texts are written to.
+
 ghost use Rattle.std.specs.Prelude.{◌≡◌, ◌<◌, ◌≤◌, ◌+◌, ℕ, List, Option, length, take, IfOk, OnErr};
 ghost use Rattle.ct_outside.specs.Count.{Rose};
 ghost use Rattle.ct_outside.specs.Told.{told_append};

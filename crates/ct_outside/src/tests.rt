@@ -1,3 +1,5 @@
+//! What no clause says: that calls succeed, and what the real files and the real output do.
+
 ghost use Rattle.std.specs.Prelude.{◌≡◌, [], IfOk};
 
 use super::*;
@@ -101,8 +103,29 @@ fn a_real_shelf_reads_a_file_of_several_pieces(rt: HostRuntime) -> Result<(), Fa
 }
 
 #[test]
-fn a_real_sink_writes_a_text(rt: HostRuntime) -> Result<(), Fail> {
-    let mut sink = RealSink::new(&rt);
-    assert_eq!(rt; write_all(&mut sink, b"leaks 0\n"), Ok(()));
+fn a_real_shelf_gives_nothing_after_a_failed_begin(rt: HostRuntime) -> Result<(), Fail> {
+    let alloc = rt.alloc();
+    fs::write(&rt, "begun.bin", [7u8; 100].as_slice())?;
+    let mut shelf = RealShelf::new(alloc, &rt)?;
+    let mut piece = [0u8; 8];
+    assert_eq!(rt; shelf.read(&mut piece), Ok(0), "before any begin");
+    assert_eq!(rt; shelf.begin(String::from_str(alloc, "begun.bin")?), Ok(()));
+    assert_eq!(rt; shelf.read(&mut piece), Ok(8), "of the file begun");
+    assert_eq!(rt;
+        shelf.begin(String::from_str(alloc, "columns.bin")?),
+        Err(Failed)
+    );
+    assert_eq!(rt; shelf.read(&mut piece), Ok(0), "after the failure");
+    fs::remove_file(&rt, "begun.bin")?;
+    Ok(())
+}
+
+// What they wrote is seen in the output of a program alone.
+#[test]
+fn real_sinks_take_a_text(rt: HostRuntime) -> Result<(), Fail> {
+    let mut out = RealSink::new(&rt);
+    assert_eq!(rt; write_all(&mut out, b"leaks 0\n"), Ok(()));
+    let mut errors = RealSink::new(rt.stderr());
+    assert_eq!(rt; write_all(&mut errors, b"ctrel: words\n"), Ok(()));
     Ok(())
 }

@@ -1,3 +1,5 @@
+//! The call that writes a text whole.
+
 ghost use Rattle.std.specs.Prelude.{◌≡◌, ◌<◌, ◌≤◌, [], length, take, OnOk, OnErr, IfErr};
 ghost use Rattle.ct_outside.specs.Count.{Rose};
 ghost use Rattle.ct_outside.specs.Told.{told_append};
@@ -7,6 +9,7 @@ use crate::{Failed, Sink};
 /// A text wasn't written whole: its first `taken` bytes were, and no others.
 #[derive(Clone, Copy, Debug, PartialEq, Eq)]
 pub struct WriteEnd {
+    /// How many bytes were written.
     pub taken: usize,
 }
 
