@@ -1,3 +1,4 @@
+//! The operations on words.
 /// An operation on two words, by its name in the RISC-V unprivileged manual (RV32I and M).
 #[derive(Clone, Copy, Debug, PartialEq, Eq, Hash)]
 pub enum AluOp {

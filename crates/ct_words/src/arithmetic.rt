@@ -1,3 +1,4 @@
+//! What an operation computes.
 ghost use Rattle.std.specs.Prelude.{◌≡◌, ◌*ℤ◌, ◌≤◌, ◌<◌, ◌^◌, ◌==◌, ◌-◌, unsigned_abs, int_div, int_rem, if◌then◌else◌};
 ghost use Rattle.std.specs.Int.{cast_unsigned, w32};
 ghost use Rattle.ct_words.specs.Words.{alu_value, high_word, signed};

@@ -1,3 +1,4 @@
+//! Whether a condition holds of two words.
 ghost use Rattle.std.specs.Prelude.{◌≡◌};
 ghost use Rattle.ct_words.specs.Words.{test_value};
 

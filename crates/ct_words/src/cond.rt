@@ -1,3 +1,4 @@
+//! The conditions of branches.
 /// The condition of a branch on two words.
 #[derive(Clone, Copy, Debug, PartialEq, Eq, Hash)]
 pub enum Cond {

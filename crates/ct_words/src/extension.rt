@@ -1,3 +1,4 @@
+//! Bytes extended to words.
 ghost use Rattle.std.specs.Prelude.{◌≡◌, ◌%◌};
 ghost use Rattle.ct_words.specs.Words.{extend_value, low_bits, sign_extended, IsAccessSize};
 

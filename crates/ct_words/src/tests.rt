@@ -1,3 +1,4 @@
+//! Worked values of operations, conditions and extension.
 use super::*;
 
 // An operation, its operands and its result.

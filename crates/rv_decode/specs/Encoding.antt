@@ -1,33 +1,33 @@
 -- The word of an instruction.
-use Rattle.std.specs.Prelude.{ℕ, ◌+◌, ◌*◌, ◌/◌, ◌%◌, ◌^◌, ◌==◌, Bool, true, false, if◌then◌else◌}
+use Rattle.std.specs.Prelude.{ℕ, ◌+◌, ◌*◌, ◌^◌, ◌==◌, Bool, true, false, if◌then◌else◌}
 use Rattle.ct_words.specs.declared.alu_op.AluOp.{AluOp}
 use Rattle.ct_words.specs.declared.alu_op.AluOp.TheVariants.{Sll, Srl, Sra}
 use Rattle.rv_decode.specs.declared.instr.Instr.{Instr}
 use Rattle.rv_decode.specs.declared.instr.Instr.TheVariants.{Lui, Auipc, Jal, Jalr, Branch, Load, Store, OpImm, Op, Fence, Call, Break}
+use Rattle.rv_decode.specs.Fields.{bits}
 use Rattle.rv_decode.specs.Table.{branch_funct3, op_funct3, op_funct7}
 
 -- the word with these fields: opcode, rd, funct3, rs1, rs2, funct7
 abbrev pub r_word : ℕ → ℕ → ℕ → ℕ → ℕ → ℕ → ℕ
 r_word opcode rd f3 rs1 rs2 f7 = f7 * 2 ^ 25 + rs2 * 2 ^ 20 + rs1 * 2 ^ 15 + f3 * 2 ^ 12 + rd * 2 ^ 7 + opcode
 
--- the same with an immediate in its place, in the formats I, S, B, U and J
+-- the same with an immediate in its place, by its bit ranges, in the formats I, S, B, U and J
 abbrev pub i_word : ℕ → ℕ → ℕ → ℕ → ℕ → ℕ
-i_word opcode rd f3 rs1 imm = r_word opcode rd f3 rs1 (imm % 2 ^ 5) (imm / 2 ^ 5 % 2 ^ 7)
+i_word opcode rd f3 rs1 imm = r_word opcode rd f3 rs1 (bits imm 4 0) (bits imm 11 5)
 
 abbrev pub s_word : ℕ → ℕ → ℕ → ℕ → ℕ → ℕ
-s_word opcode f3 rs1 rs2 imm = r_word opcode (imm % 2 ^ 5) f3 rs1 rs2 (imm / 2 ^ 5 % 2 ^ 7)
+s_word opcode f3 rs1 rs2 imm = r_word opcode (bits imm 4 0) f3 rs1 rs2 (bits imm 11 5)
 
 abbrev pub b_word : ℕ → ℕ → ℕ → ℕ → ℕ → ℕ
 b_word opcode f3 rs1 rs2 imm =
-    r_word opcode (imm / 2 % 2 ^ 4 * 2 + imm / 2 ^ 11 % 2) f3 rs1 rs2 (imm / 2 ^ 12 % 2 * 2 ^ 6 + imm / 2 ^ 5 % 2 ^ 6)
+    r_word opcode (bits imm 4 1 * 2 + bits imm 11 11) f3 rs1 rs2 (bits imm 12 12 * 2 ^ 6 + bits imm 10 5)
 
 abbrev pub u_word : ℕ → ℕ → ℕ → ℕ
-u_word opcode rd imm = r_word opcode rd (imm / 2 ^ 12 % 2 ^ 3) (imm / 2 ^ 15 % 2 ^ 5) (imm / 2 ^ 20 % 2 ^ 5) (imm / 2 ^ 25 % 2 ^ 7)
+u_word opcode rd imm = r_word opcode rd (bits imm 14 12) (bits imm 19 15) (bits imm 24 20) (bits imm 31 25)
 
 abbrev pub j_word : ℕ → ℕ → ℕ → ℕ
 j_word opcode rd imm =
-    r_word opcode rd (imm / 2 ^ 12 % 2 ^ 3) (imm / 2 ^ 15 % 2 ^ 5) (imm / 2 % 2 ^ 4 * 2 + imm / 2 ^ 11 % 2)
-    (imm / 2 ^ 20 % 2 * 2 ^ 6 + imm / 2 ^ 5 % 2 ^ 6)
+    r_word opcode rd (bits imm 14 12) (bits imm 19 15) (bits imm 4 1 * 2 + bits imm 11 11) (bits imm 20 20 * 2 ^ 6 + bits imm 10 5)
 
 -- funct3 of a load and of a store
 abbrev pub load_funct3 : ℕ → Bool → ℕ
@@ -39,9 +39,9 @@ store_funct3 bytes = if bytes == 1 then 0 else (if bytes == 2 then 1 else 2)
 
 -- an operation with an immediate: a shift has funct7 beside the amount
 abbrev pub op_imm_word : AluOp → ℕ → ℕ → ℕ → ℕ
-op_imm_word Sll rd rs1 imm = r_word 0x13 rd 1 rs1 (imm % 2 ^ 5) 0
-op_imm_word Srl rd rs1 imm = r_word 0x13 rd 5 rs1 (imm % 2 ^ 5) 0
-op_imm_word Sra rd rs1 imm = r_word 0x13 rd 5 rs1 (imm % 2 ^ 5) 0x20
+op_imm_word Sll rd rs1 imm = r_word 0x13 rd 1 rs1 (bits imm 4 0) 0
+op_imm_word Srl rd rs1 imm = r_word 0x13 rd 5 rs1 (bits imm 4 0) 0
+op_imm_word Sra rd rs1 imm = r_word 0x13 rd 5 rs1 (bits imm 4 0) 0x20
 op_imm_word op rd rs1 imm = i_word 0x13 rd (op_funct3 op) rs1 imm
 
 -- the word of an instruction that some word stands for

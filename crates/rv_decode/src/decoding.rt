@@ -1,3 +1,4 @@
+//! Instructions from words.
 ghost use Rattle.std.specs.Prelude.{◌≡◌, IfSome};
 ghost use Rattle.rv_decode.specs.Instructions as table;
 

@@ -1,9 +1,11 @@
+//! Words from instructions.
 ghost use Rattle.std.specs.Prelude.{◌≡◌, ◌<◌, ◌^◌, ℕ, Some};
 ghost use Rattle.ct_words.specs.Words.{IsAccessSize};
 ghost use Rattle.rv_decode.specs.Instructions.{instruction_of, InRange, IsDecoded};
 ghost use Rattle.rv_decode.specs.Table as table;
 ghost use Rattle.rv_decode.specs.Encoding as words;
 
+use crate::fields::bits;
 use crate::instr::Instr;
 use ct_words::{AluOp, Cond};
 
@@ -103,7 +105,7 @@ fn i_word(opcode: u32, rd: u32, funct3: u32, rs1: u32, imm: u32) -> u32
     requires rs1 { rs1 < 32 }
     ensures { result ≡ words.i_word opcode rd funct3 rs1 imm }
 {
-    r_word(opcode, rd, funct3, rs1, imm % 32, imm / 32 % 128)
+    r_word(opcode, rd, funct3, rs1, bits(imm, 4, 0), bits(imm, 11, 5))
 }
 
 fn s_word(opcode: u32, funct3: u32, rs1: u32, rs2: u32, imm: u32) -> u32
@@ -113,7 +115,7 @@ fn s_word(opcode: u32, funct3: u32, rs1: u32, rs2: u32, imm: u32) -> u32
     requires rs2 { rs2 < 32 }
     ensures { result ≡ words.s_word opcode funct3 rs1 rs2 imm }
 {
-    r_word(opcode, imm % 32, funct3, rs1, rs2, imm / 32 % 128)
+    r_word(opcode, bits(imm, 4, 0), funct3, rs1, rs2, bits(imm, 11, 5))
 }
 
 fn b_word(opcode: u32, funct3: u32, rs1: u32, rs2: u32, imm: u32) -> u32
@@ -123,8 +125,8 @@ fn b_word(opcode: u32, funct3: u32, rs1: u32, rs2: u32, imm: u32) -> u32
     requires rs2 { rs2 < 32 }
     ensures { result ≡ words.b_word opcode funct3 rs1 rs2 imm }
 {
-    let low = imm / 2 % 16 * 2 + imm / 0x800 % 2;
-    let high = imm / 0x1000 % 2 * 64 + imm / 32 % 64;
+    let low = bits(imm, 4, 1) * 2 + bits(imm, 11, 11);
+    let high = bits(imm, 12, 12) * 0x40 + bits(imm, 10, 5);
     r_word(opcode, low, funct3, rs1, rs2, high)
 }
 
@@ -136,10 +138,10 @@ fn u_word(opcode: u32, rd: u32, imm: u32) -> u32
     r_word(
         opcode,
         rd,
-        imm / 0x1000 % 8,
-        imm / 0x8000 % 32,
-        imm / 0x10_0000 % 32,
-        imm / 0x200_0000 % 128,
+        bits(imm, 14, 12),
+        bits(imm, 19, 15),
+        bits(imm, 24, 20),
+        bits(imm, 31, 25),
     )
 }
 
@@ -148,9 +150,9 @@ fn j_word(opcode: u32, rd: u32, imm: u32) -> u32
     requires rd { rd < 32 }
     ensures { result ≡ words.j_word opcode rd imm }
 {
-    let low = imm / 2 % 16 * 2 + imm / 0x800 % 2;
-    let high = imm / 0x10_0000 % 2 * 64 + imm / 32 % 64;
-    r_word(opcode, rd, imm / 0x1000 % 8, imm / 0x8000 % 32, low, high)
+    let low = bits(imm, 4, 1) * 2 + bits(imm, 11, 11);
+    let high = bits(imm, 20, 20) * 0x40 + bits(imm, 10, 5);
+    r_word(opcode, rd, bits(imm, 14, 12), bits(imm, 19, 15), low, high)
 }
 
 fn op_imm_word(op: AluOp, rd: u32, rs1: u32, imm: u32) -> u32
@@ -159,9 +161,9 @@ fn op_imm_word(op: AluOp, rd: u32, rs1: u32, imm: u32) -> u32
     ensures { result ≡ words.op_imm_word op rd rs1 imm }
 {
     match op {
-        AluOp::Sll => r_word(0x13, rd, 1, rs1, imm % 32, 0),
-        AluOp::Srl => r_word(0x13, rd, 5, rs1, imm % 32, 0),
-        AluOp::Sra => r_word(0x13, rd, 5, rs1, imm % 32, 0x20),
+        AluOp::Sll => r_word(0x13, rd, 1, rs1, bits(imm, 4, 0), 0),
+        AluOp::Srl => r_word(0x13, rd, 5, rs1, bits(imm, 4, 0), 0),
+        AluOp::Sra => r_word(0x13, rd, 5, rs1, bits(imm, 4, 0), 0x20),
         _ => i_word(0x13, rd, op_funct3(op), rs1, imm),
     }
 }

@@ -1,7 +1,8 @@
+//! The fields and immediates of a word, by bit ranges.
 ghost use Rattle.std.specs.Prelude.{◌≡◌, ◌<◌, ◌≤◌, ◌*◌, ◌+◌, ◌-◌, ◌^◌, nat_lt, if◌then◌else◌};
 ghost use Rattle.rv_decode.specs.Fields as fields;
 
-fn bits(word: u32, high: u32, low: u32) -> u32
+pub fn bits(word: u32, high: u32, low: u32) -> u32
     requires order { low ≤ high }
     requires within { high < 32 }
     requires short { high < low + 31 }

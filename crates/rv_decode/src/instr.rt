@@ -1,3 +1,4 @@
+//! The instructions.
 use ct_words::{AluOp, Cond};
 
 /// An instruction of RV32I or M. Registers are numbers below 32; immediates and offsets are

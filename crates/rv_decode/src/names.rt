@@ -1,3 +1,4 @@
+//! The names of registers and instructions.
 ghost use Rattle.std.specs.Prelude.{◌≡◌, ◌<◌};
 ghost use Rattle.ct_words.specs.Words.{IsAccessSize};
 ghost use Rattle.rv_decode.specs.Text as names;

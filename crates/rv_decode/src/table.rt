@@ -1,3 +1,4 @@
+//! The law that the table of instructions and the function on words agree.
 ghost use Rattle.std.specs.Prelude.{◌≡◌, ◌↔◌, ◌<◌, ◌^◌, ℕ, IfSome, Some};
 ghost use Rattle.rv_decode.specs.declared.instr.Instr.{Instr};
 ghost use Rattle.rv_decode.specs.Instructions.{instruction_of, InRange};

@@ -1,3 +1,4 @@
+//! A word of every row of the table, with its instruction and text.
 use super::*;
 use std::test::Fail;
 
