@@ -1,4 +1,6 @@
+//! A `Vec` that contracts see as the list of its items.
 ghost use Rattle.std.specs.Prelude.{◌≡◌, [], ◌<◌, ◌↔◌, length, slice_get, IsTrue, IfOk, OnSome};
+ghost use Rattle.std.specs.Slice.Iter.{iter_rest};
 ghost use Rattle.std.specs.Option.{option_copied};
 ghost use Rattle.std.specs.Cmp.Lexicographic.{pointwise, lists_per, lists_equiv};
 ghost use Rattle.std.specs.Hash as fed;
@@ -7,6 +9,7 @@ ghost use Rattle.std.specs.Hash.{items_Alike};
 use std::alloc::{AllocError, Global};
 use std::hash::{Hash, Hasher};
 use std::marker::Model;
+use std::slice;
 
 /// A `Vec` that contracts see as the list of its items: two rows are `≡` exactly where their items are.
 #[derive(Debug, Drop)]
@@ -62,6 +65,25 @@ impl<T> Row<T> {
         ensures within { OnSome result (at < length self.now) }
     {
         self.items.get(at)
+    }
+
+    /// The items in order, lent.
+    pub fn iter(&self) -> slice::Iter<'_, T>
+        ensures { iter_rest result ≡ self.now }
+    {
+        self.items.iter()
+    }
+}
+
+impl<'a, T> IntoIterator for &'a Row<T> {
+    type Item = &'a T;
+
+    type IntoIter = slice::Iter<'a, T>;
+
+    ghost into_iter_gives = { λ row it. iter_rest it ≡ row.now };
+
+    fn into_iter(self) -> Self::IntoIter {
+        self.iter()
     }
 }
 

@@ -1,14 +1,12 @@
 -- What holds of a file that no rule refuses.
-use Rattle.std.proofs.Common.{◌≡◌, ℕ, ◌+◌, ◌*◌, ◌≤◌, Bool, true, false, ◌&&◌, eqb, leb, List, [], ◌∷◌, length, Option, Some, None, refl}
-use Rattle.std.specs.List.{AllByRecursion}
-use Rattle.std.specs.Option.{option_or, option_map}
+use Rattle.std.proofs.Common.{◌≡◌, ℕ, ◌+◌, ◌*◌, ◌≤◌, true, ◌&&◌, eqb, leb, List, length, None}
 use Rattle.std.proofs.lemmas.Bool.{leb-true, and_parts}
 use Rattle.elf_load.specs.declared.elf.Elf.{Elf}
 use Rattle.elf_load.specs.declared.segment.Segment.{Segment}
 use Rattle.elf_load.specs.declared.symbol.Symbol.{Symbol}
-use Rattle.elf_load.specs.declared.refusal.ElfRefusal.{ElfRefusal}
 use Rattle.elf_load.specs.declared.refusal.ElfRefusal.TheVariants as refusals
-use Rattle.elf_load.specs.File.{file_header, program_headers, unless, first_of, rules, first_refusal, has_header, has_program_table, first_misplaced, first_overlap, has_small_memory}
+use Rattle.ct_rows.proofs.RuleLaws.{option_map-none, unless-none, first_of-none}
+use Rattle.elf_load.specs.File.{file_header, program_headers, rules, first_refusal, has_header, has_program_table, first_misplaced, first_overlapping, has_small_memory}
 use Rattle.elf_load.specs.Loading.{segments_of, elf_of}
 use Rattle.elf_load.specs.Symbols.{symbols_of}
 
@@ -16,26 +14,8 @@ pub record IsAccepted (bytes : List ℕ) : Type 0 where
   pub header : has_header bytes ≡ true
   pub table : has_program_table (length bytes) (file_header bytes) ≡ true
   pub placed : first_misplaced (length bytes) (program_headers bytes) ≡ None
-  pub apart : first_overlap (program_headers bytes) ≡ None
+  pub apart : first_overlapping (program_headers bytes) ≡ None
   pub small : has_small_memory (program_headers bytes) ≡ true
-
-option_or-none : (first second : Option ElfRefusal) → option_or first second ≡ None → (first ≡ None) × (second ≡ None)
-option_or-none None second none = (refl, none)
-option_or-none (Some refusal) second none = absurd cc
-
-option_map-none : {X Y : Type 0} (f : X → Y) (o : Option X) → option_map f o ≡ None → o ≡ None
-option_map-none f None none = refl
-option_map-none f (Some x) none = absurd cc
-
-unless-none : (holds : Bool) (refusal : ElfRefusal) → unless holds refusal ≡ None → holds ≡ true
-unless-none true refusal none = refl
-unless-none false refusal none = absurd cc
-
-first_of-none : (refusals : List (Option ElfRefusal)) → first_of refusals ≡ None → AllByRecursion (λ refusal. refusal ≡ None) refusals
-first_of-none [] none = tt
-first_of-none (first ∷ others) none =
-    let both = option_or-none first (first_of others) none in
-    (both.0, first_of-none others both.1)
 
 pub accepted : (bytes : List ℕ) → first_refusal bytes ≡ None → IsAccepted bytes
 unfolding first_refusal

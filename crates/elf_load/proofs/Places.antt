@@ -1,37 +1,19 @@
 -- Where the segments of accepted program headers lie.
-use Rattle.std.proofs.Common.{◌≡◌, ℕ, zero, suc, ◌+◌, ◌-◌, ◌^◌, ◌<◌, ◌≤◌, min, max, Bool, true, false, not, cond, eqb, ltb, leb, ◌&&◌, ◌||◌, List, [], ◌∷◌, ◌++◌, length, get_or, take, drop, map, replicate, All, Option, Some, None, refl, sym, ap, ◌∙◌, inl, inr, subst, arith}
-use Rattle.std.specs.List.{AllPairs, filter, position, position_or_len, sum_by}
-use Rattle.std.specs.Option.{option_or, option_map}
-use Rattle.std.proofs.lemmas.Bool.{ltb-false, leb-true, eqb-true, not-true, not-false, and_parts, and_cases, or_cases, cond_both}
+use Rattle.std.proofs.Common.{◌≡◌, ℕ, zero, suc, ◌+◌, ◌-◌, ◌^◌, ◌<◌, ◌≤◌, min, max, Bool, true, false, not, cond, eqb, ltb, leb, ◌&&◌, ◌||◌, List, [], ◌∷◌, ◌++◌, length, get_or, take, drop, map, replicate, All, None, refl, sym, ap, ◌∙◌, inl, inr, subst, arith}
+use Rattle.std.specs.List.{AllPairs, filter, sum_by}
+use Rattle.std.proofs.lemmas.Bool.{ltb-false, leb-true, eqb-true, not-false, and_parts, and_cases, or_cases, cond_both}
 use Rattle.std.proofs.lemmas.List.{length-take, length-drop, length-append, length-replicate, map-append, append-nil}
 use Rattle.std.proofs.lemmas.List.Elements.{All-map, All-filter, All-append, All-replicate, All-take, All-drop, filter_more, filter_passes}
-use Rattle.std.proofs.lemmas.List.Kept.{AllPairs-cons, AllPairs-filter}
-use Rattle.std.proofs.lemmas.List.Sums.{prefix_len_passes, sum_by-cons}
+use Rattle.std.proofs.lemmas.List.Kept.{AllPairs-filter}
+use Rattle.std.proofs.lemmas.List.Sums.{sum_by-cons}
 use Rattle.elf_load.specs.declared.program_header.ProgramHeader.{ProgramHeader}
 use Rattle.elf_load.specs.declared.segment.Segment.{Segment}
 use Rattle.elf_load.specs.Fields.{bytes_at}
-use Rattle.elf_load.specs.File.{is_load, is_within, first_misplaced, share_address, first_overlap_from, first_overlap, loaded_size, has_small_memory}
+use Rattle.elf_load.specs.Overlap.{share_address}
+use Rattle.elf_load.specs.File.{is_load, is_within, first_misplaced, first_overlapping, loaded_size, loaded_end, has_small_memory}
 use Rattle.elf_load.specs.Loading.{loads_bytes, loaded_bytes, segment_of, segments_of}
 use Rattle.elf_load.specs.Layout.{Extent, AreApart, FitsMemory, segment_extent}
-
--- ---- tests over lists
-
-cond-none : (test : Bool) (index : ℕ) → cond test (Some index) None ≡ None → test ≡ false
-cond-none true index none = absurd cc
-cond-none false index none = refl
-
--- where no element passes, each fails
-position-none : {X : Type 0} (p : X → Bool) (xs : List X) → position p xs ≡ None → All (λ x. p x ≡ false) xs
-position-none p xs none k d inside =
-    let all : length xs ≤ position_or_len p xs = ltb-false _ _ (cond-none (ltb (position_or_len p xs) (length xs)) (position_or_len p xs) none) in
-    not-true _ (prefix_len_passes (λ x. not (p x)) xs k d (omega arith))
-
-AllPairs-map : {X Y : Type 0} (R : Y → Y → Type 0) (f : X → Y) (xs : List X) → AllPairs (λ x y. R (f x) (f y)) xs → AllPairs R (map f xs)
-AllPairs-map R f [] pairs = λ i j d before inside. absurd (omega arith)
-AllPairs-map {X} {Y} R f (x ∷ xs) pairs =
-    let later : AllPairs (λ x y. R (f x) (f y)) xs = λ i j d before inside. pairs (suc i) (suc j) d (omega arith) (omega arith) in
-    let first : All (λ y. R (f x) (f y)) xs = λ k d inside. pairs zero (suc k) d (omega arith) (omega arith) in
-    AllPairs-cons R (f x) (map f xs) (All-map (λ y. R (f x) y) f xs first) (AllPairs-map R f xs later)
+use Rattle.elf_load.proofs.Overlaps.{AllPairs-map, position-none, none_share}
 
 -- ---- segments within the file and memory
 
@@ -102,31 +84,15 @@ map-segment_extent bytes (header ∷ headers) within =
 
 -- ---- segments apart
 
-not_sharing : (left right : ProgramHeader) → share_address left right ≡ false → is_load left ≡ true → is_load right ≡ true → AreApart (header_extent left) (header_extent right)
+-- two program headers share no address
+abbrev AreSeparate : ProgramHeader → ProgramHeader → Type 0
+AreSeparate left right = share_address (λ (header : ProgramHeader). header.address) loaded_end left right ≡ false
+
+not_sharing : (left right : ProgramHeader) → AreSeparate left right → is_load left ≡ true → is_load right ≡ true → AreApart (header_extent left) (header_extent right)
 not_sharing left right none first second =
     let no_address : ltb (max left.address right.address) (min (left.address + left.memory_size) (right.address + right.memory_size)) ≡ false =
     rw (first, second) at none in
     ltb-false _ _ no_address
-
-option_or-none : {X : Type 0} (first second : Option X) → option_or first second ≡ None → (first ≡ None) × (second ≡ None)
-option_or-none None second none = (refl, none)
-option_or-none (Some x) second none = absurd cc
-
-option_map-none : {X Y : Type 0} (f : X → Y) (o : Option X) → option_map f o ≡ None → o ≡ None
-option_map-none f None none = refl
-option_map-none f (Some x) none = absurd cc
-
-all_apart-from : (index : ℕ) (headers : List ProgramHeader) → first_overlap_from index headers ≡ None → AllPairs (λ left right. share_address left right ≡ false) headers
-unfolding first_overlap_from
-all_apart-from index [] none = λ i j d before inside. absurd (omega arith)
-all_apart-from index (header ∷ headers) none =
-    let both = option_or-none (option_map (λ distance. (index, index + 1 + distance)) (position (share_address header) headers)) (first_overlap_from (index + 1) headers) none in
-    let here = position-none (share_address header) headers (option_map-none (λ (distance : ℕ). (index, index + 1 + distance)) (position (share_address header) headers) both.0) in
-    AllPairs-cons (λ left right. share_address left right ≡ false) header headers here (all_apart-from (index + 1) headers both.1)
-
-all_apart : (headers : List ProgramHeader) → first_overlap headers ≡ None → AllPairs (λ left right. share_address left right ≡ false) headers
-unfolding first_overlap
-all_apart headers none = all_apart-from 0 headers none
 
 -- ---- all segments together
 
@@ -152,7 +118,7 @@ sum_by-loaded_size (header ∷ headers) =
 
 -- the segments of accepted program headers are apart, and within memory
 pub FitsMemory-segments_of : (bytes : List ℕ) (headers : List ProgramHeader)
-    → first_misplaced (length bytes) headers ≡ None → first_overlap headers ≡ None → has_small_memory headers ≡ true
+    → first_misplaced (length bytes) headers ≡ None → first_overlapping headers ≡ None → has_small_memory headers ≡ true
     → FitsMemory (map segment_extent (segments_of bytes headers))
 unfolding segments_of
 FitsMemory-segments_of bytes headers none no_overlap small =
@@ -161,7 +127,7 @@ FitsMemory-segments_of bytes headers none no_overlap small =
     let placed : All (IsPlaced (length bytes)) kept = All-filter loads_bytes (IsPlaced (length bytes)) headers (all_placed (length bytes) headers none) in
     let within : All (λ header. is_within (length bytes) header ≡ true) kept =
     λ k d inside. placed k d inside (and_parts (is_load (get_or kept k d)) _ (loads k d inside)).0 in
-    let pairs = AllPairs-filter (λ left right. share_address left right ≡ false) loads_bytes headers (all_apart headers no_overlap) in
+    let pairs = AllPairs-filter AreSeparate loads_bytes headers (none_share _ _ headers no_overlap) in
     let apart : AllPairs (λ left right. AreApart (header_extent left) (header_extent right)) kept =
     λ i j d before inside.
     not_sharing (get_or kept i d) (get_or kept j d) (pairs i j d before inside)

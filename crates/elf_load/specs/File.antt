@@ -1,12 +1,15 @@
 -- ELF32 executables, little-endian, by the fields and rules of the System V ABI and the RISC-V psABI.
-use Rattle.std.specs.Prelude.{ℕ, ◌+◌, ◌*◌, ◌^◌, ◌%◌, min, max, nat_eq, nat_lt, nat_le, ◌==◌, Bool, true, false, not, ◌&&◌, ◌||◌, if◌then◌else◌, List, [], ◌∷◌, ◌++◌, length, slice_index, Option, Some, None, sum_by, position}
+use Rattle.std.specs.Prelude.{ℕ, ◌+◌, ◌*◌, ◌%◌, nat_eq, nat_le, ◌==◌, Bool, not, ◌&&◌, ◌||◌, if◌then◌else◌, List, [], ◌∷◌, ◌++◌, length, slice_index, Option, sum_by, position}
 use Rattle.std.specs.List.{list_any, starts_with}
-use Rattle.std.specs.Option.{option_or, option_map}
+use Rattle.std.specs.Option.{option_map}
+use Rattle.ct_rows.specs.Rules.{unless, first_of}
 use Rattle.elf_load.specs.declared.file_header.FileHeader.{FileHeader}
 use Rattle.elf_load.specs.declared.program_header.ProgramHeader.{ProgramHeader}
 use Rattle.elf_load.specs.declared.refusal.ElfRefusal.{ElfRefusal}
 use Rattle.elf_load.specs.declared.refusal.ElfRefusal.TheVariants.{Short, Magic, Class, Order, Version, Kind, Machine, Compressed, Table, Dynamic, Segment, Overlap, Large}
 use Rattle.elf_load.specs.Fields.{number_at, entries}
+use Rattle.elf_load.specs.Numbers.{elf_header_size, program_header_size, ELFCLASS32, ELFDATA2LSB, EV_CURRENT, ET_EXEC, EM_RISCV, PT_LOAD, PT_DYNAMIC, PT_INTERP, most_program_headers, memory_end, most_memory}
+use Rattle.elf_load.specs.Overlap.{first_overlap}
 
 -- the ELF header, each field at its offset
 unfoldable pub file_header : List ℕ → FileHeader
@@ -40,11 +43,11 @@ program_header offset bytes = record {
 
 -- the program header table: entries of 32 bytes
 unfoldable pub program_headers : List ℕ → List ProgramHeader
-program_headers bytes = entries program_header 32 (file_header bytes).program_count (file_header bytes).program_table bytes
+program_headers bytes = entries program_header program_header_size (file_header bytes).program_count (file_header bytes).program_table bytes
 
 -- E1: there are at least the 52 bytes of the ELF header
 abbrev pub has_header : List ℕ → Bool
-has_header bytes = nat_le 52 (length bytes)
+has_header bytes = nat_le elf_header_size (length bytes)
 
 -- E2: the file begins with the magic number
 abbrev pub has_magic : List ℕ → Bool
@@ -52,23 +55,23 @@ has_magic bytes = starts_with nat_eq bytes (0x7f ∷ 0x45 ∷ 0x4c ∷ 0x46 ∷ 
 
 -- E3: it is for 32 bits
 abbrev pub is_32_bit : FileHeader → Bool
-is_32_bit header = header.class == 1
+is_32_bit header = header.class == ELFCLASS32
 
 -- E4: its numbers are little-endian
 abbrev pub is_little_endian : FileHeader → Bool
-is_little_endian header = header.order == 1
+is_little_endian header = header.order == ELFDATA2LSB
 
 -- E5: both versions are 1
 abbrev pub is_current_version : FileHeader → Bool
-is_current_version header = header.identity_version == 1 && header.version == 1
+is_current_version header = header.identity_version == EV_CURRENT && header.version == EV_CURRENT
 
 -- E6: it is an executable file
 abbrev pub is_executable_file : FileHeader → Bool
-is_executable_file header = header.kind == 2
+is_executable_file header = header.kind == ET_EXEC
 
 -- E7: it is for RISC-V
 abbrev pub is_for_riscv : FileHeader → Bool
-is_for_riscv header = header.machine == 243
+is_for_riscv header = header.machine == EM_RISCV
 
 -- E8: it has no compressed instructions
 abbrev pub is_uncompressed : FileHeader → Bool
@@ -77,12 +80,12 @@ is_uncompressed header = header.flags % 2 == 0
 -- E9: there are 1 to 64 program headers of 32 bytes, all within the file, which has so many bytes
 abbrev pub has_program_table : ℕ → FileHeader → Bool
 has_program_table size header =
-    (nat_le 1 header.program_count && nat_le header.program_count 64)
-    && (header.program_entry_size == 32 && nat_le (header.program_table + 32 * header.program_count) size)
+    (nat_le 1 header.program_count && nat_le header.program_count most_program_headers)
+    && (header.program_entry_size == program_header_size && nat_le (header.program_table + program_header_size * header.program_count) size)
 
 -- a program header of type PT_DYNAMIC or PT_INTERP
 abbrev pub is_dynamic : ProgramHeader → Bool
-is_dynamic header = header.kind == 2 || header.kind == 3
+is_dynamic header = header.kind == PT_DYNAMIC || header.kind == PT_INTERP
 
 -- E10: no program header asks for dynamic linking or for an interpreter
 abbrev pub is_static : List ProgramHeader → Bool
@@ -90,53 +93,34 @@ is_static headers = not (list_any is_dynamic headers)
 
 -- a program header of type PT_LOAD
 abbrev pub is_load : ProgramHeader → Bool
-is_load header = header.kind == 1
+is_load header = header.kind == PT_LOAD
 
 -- a segment's bytes are within the file, which has so many bytes, and within memory
 abbrev pub is_within : ℕ → ProgramHeader → Bool
 is_within size header =
     nat_le header.file_size header.memory_size
     && ((header.file_size == 0 || nat_le (header.offset + header.file_size) size)
-    && nat_le (header.address + header.memory_size) (2 ^ 32))
+    && nat_le (header.address + header.memory_size) memory_end)
 
 -- E11: the first program header, by its index in the table, whose segment is not within file and memory
 unfoldable pub first_misplaced : ℕ → List ProgramHeader → Option ℕ
 first_misplaced size headers = position (λ header. is_load header && not (is_within size header)) headers
 
--- two segments share an address
-abbrev pub share_address : ProgramHeader → ProgramHeader → Bool
-share_address left right =
-    is_load left
-    && (is_load right
-    && nat_lt (max left.address right.address) (min (left.address + left.memory_size) (right.address + right.memory_size)))
-
--- the first pair, by the indices in the table, of which the first has at least this index
-unfoldable pub first_overlap_from : ℕ → List ProgramHeader → Option (ℕ × ℕ)
-first_overlap_from index [] = None
-first_overlap_from index (header ∷ headers) =
-    option_or (option_map (λ distance. (index, index + 1 + distance)) (position (share_address header) headers)) (first_overlap_from (index + 1) headers)
-
--- E12: the first two program headers whose segments share an address
-unfoldable pub first_overlap : List ProgramHeader → Option (ℕ × ℕ)
-first_overlap headers = first_overlap_from 0 headers
-
 -- the bytes that a program header loads
 abbrev pub loaded_size : ProgramHeader → ℕ
 loaded_size header = if is_load header then header.memory_size else 0
 
+-- the address after the last one that a program header loads
+abbrev pub loaded_end : ProgramHeader → ℕ
+loaded_end header = header.address + loaded_size header
+
+-- E12: the first two program headers, by their indices in the table, whose segments share an address
+abbrev pub first_overlapping : List ProgramHeader → Option (ℕ × ℕ)
+first_overlapping headers = first_overlap (λ header. header.address) loaded_end headers
+
 -- E13: all segments together have at most 2^24 bytes
 abbrev pub has_small_memory : List ProgramHeader → Bool
-has_small_memory headers = nat_le (sum_by loaded_size headers) (2 ^ 24)
-
--- a rule that holds refuses nothing, and one that fails has its refusal
-abbrev pub unless : Bool → ElfRefusal → Option ElfRefusal
-unless true refusal = None
-unless false refusal = Some refusal
-
--- the first refusal
-abbrev pub first_of : List (Option ElfRefusal) → Option ElfRefusal
-first_of [] = None
-first_of (rule ∷ rules) = option_or rule (first_of rules)
+has_small_memory headers = nat_le (sum_by loaded_size headers) most_memory
 
 -- E3 to E8
 abbrev pub header_rules : FileHeader → List (Option ElfRefusal)
@@ -154,7 +138,7 @@ abbrev pub segment_rules : ℕ → List ProgramHeader → List (Option ElfRefusa
 segment_rules size headers =
     unless (is_static headers) Dynamic
     ∷ option_map (λ index. Segment index) (first_misplaced size headers)
-    ∷ option_map (λ pair. Overlap pair.0 pair.1) (first_overlap headers)
+    ∷ option_map (λ pair. Overlap pair.0 pair.1) (first_overlapping headers)
     ∷ unless (has_small_memory headers) Large
     ∷ []
 

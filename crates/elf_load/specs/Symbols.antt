@@ -10,6 +10,7 @@ use Rattle.elf_load.specs.declared.symbol.Symbol.{Symbol}
 use Rattle.elf_load.specs.declared.elf.Elf.{Elf}
 use Rattle.elf_load.specs.Fields.{number_at, bytes_at, entries}
 use Rattle.elf_load.specs.File.{file_header}
+use Rattle.elf_load.specs.Numbers.{section_header_size, symbol_entry_size, SHT_SYMTAB, SHT_STRTAB, SHN_UNDEF, STT_SECTION, STT_FILE, STB_GLOBAL, STB_WEAK}
 
 -- the section header at an offset of the file
 unfoldable pub section_header : ℕ → List ℕ → SectionHeader
@@ -24,15 +25,15 @@ section_header offset bytes = record {
 -- the section header table has entries of 40 bytes, all within the file, which has so many bytes
 abbrev pub has_section_table : ℕ → FileHeader → Bool
 has_section_table size header =
-    header.section_entry_size == 40 && nat_le (header.section_table + 40 * header.section_count) size
+    header.section_entry_size == section_header_size && nat_le (header.section_table + section_header_size * header.section_count) size
 
 -- the section header table
 unfoldable pub section_headers : List ℕ → List SectionHeader
-section_headers bytes = entries section_header 40 (file_header bytes).section_count (file_header bytes).section_table bytes
+section_headers bytes = entries section_header section_header_size (file_header bytes).section_count (file_header bytes).section_table bytes
 
 -- a section of type SHT_SYMTAB
 abbrev pub is_symbol_table : SectionHeader → Bool
-is_symbol_table section = section.kind == 2
+is_symbol_table section = section.kind == SHT_SYMTAB
 
 -- a section is within the file, which has so many bytes
 abbrev pub is_section_within : ℕ → SectionHeader → Bool
@@ -40,11 +41,11 @@ is_section_within size section = nat_le (section.offset + section.size) size
 
 -- the symbol section has entries of 16 bytes, and is within the file
 abbrev pub is_sound_symbol_table : ℕ → SectionHeader → Bool
-is_sound_symbol_table size section = section.entry_size == 16 && is_section_within size section
+is_sound_symbol_table size section = section.entry_size == symbol_entry_size && is_section_within size section
 
 -- the linked section has type SHT_STRTAB, and is within the file
 abbrev pub is_sound_string_table : ℕ → SectionHeader → Bool
-is_sound_string_table size section = section.kind == 3 && is_section_within size section
+is_sound_string_table size section = section.kind == SHT_STRTAB && is_section_within size section
 
 -- the bytes of a section
 abbrev pub section_bytes : List ℕ → SectionHeader → List ℕ
@@ -77,11 +78,11 @@ symbol_entry offset bytes = record {
 
 -- a defined symbol that names neither a section nor a source file: its section isn't SHN_UNDEF, its type neither STT_SECTION nor STT_FILE
 abbrev pub names_address : SymbolEntry → Bool
-names_address entry = not (entry.section == 0) && not (entry.info % 16 == 3 || entry.info % 16 == 4)
+names_address entry = not (entry.section == SHN_UNDEF) && not (entry.info % 16 == STT_SECTION || entry.info % 16 == STT_FILE)
 
 -- the binding is STB_GLOBAL or STB_WEAK
 abbrev pub is_global : SymbolEntry → Bool
-is_global entry = entry.info / 16 == 1 || entry.info / 16 == 2
+is_global entry = entry.info / 16 == STB_GLOBAL || entry.info / 16 == STB_WEAK
 
 -- a name isn't empty, and is UTF-8
 abbrev pub is_name : List ℕ → Bool
@@ -101,7 +102,7 @@ symbol_of strings entry =
 
 -- the kept symbols of a symbol section's bytes and a string section's bytes
 unfoldable pub symbols_in : List ℕ → List ℕ → List Symbol
-symbols_in table strings = filter_map (symbol_of strings) (entries symbol_entry 16 (length table / 16) 0 table)
+symbols_in table strings = filter_map (symbol_of strings) (entries symbol_entry symbol_entry_size (length table / symbol_entry_size) 0 table)
 
 -- the kept symbols of a file, in the order of the symbol table; none where a table is unsound
 unfoldable pub symbols_of : List ℕ → List Symbol

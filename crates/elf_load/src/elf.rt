@@ -1,3 +1,4 @@
+//! A loaded executable, and the addresses of its names.
 ghost use Rattle.std.specs.Prelude.{◌≡◌, find};
 ghost use Rattle.std.specs.Option.{option_copied};
 ghost use Rattle.elf_load.specs.Symbols.{symbol_value, is_global_named, is_local_named};

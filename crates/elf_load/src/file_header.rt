@@ -1,3 +1,4 @@
+//! The ELF header of a file.
 ghost use Rattle.std.specs.Prelude.{◌≡◌, ◌≤◌, length};
 ghost use Rattle.elf_load.specs.File.{file_header};
 

@@ -4,8 +4,10 @@
 
 mod elf;
 mod file_header;
+mod format;
 mod loading;
 mod program_header;
+mod range;
 mod refusal;
 mod rules;
 mod section_header;
@@ -18,7 +20,9 @@ mod table;
 mod tests;
 
 pub use elf::Elf;
+pub use format::{MEMORY_END, MOST_MEMORY};
 pub use loading::load;
+pub use range::{AddressRange, first_overlap};
 pub use refusal::ElfRefusal;
 pub use segment::Segment;
 pub use symbol::Symbol;

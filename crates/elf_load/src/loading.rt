@@ -1,3 +1,4 @@
+//! Loading: from the bytes of a file to the executable that they stand for.
 ghost use Rattle.std.specs.Prelude.{◌≡◌, ◌≢◌, length, IfOk, IfErr, IfSome, IsTrue};
 ghost use Rattle.elf_load.specs.Fields.{bytes_at};
 ghost use Rattle.elf_load.specs.File.{is_within, first_misplaced, first_refusal};

@@ -1,7 +1,10 @@
+//! A program header of a file, and what it loads.
 ghost use Rattle.std.specs.Prelude.{◌≡◌, ◌+◌, ◌≤◌, length};
-ghost use Rattle.elf_load.specs.File.{program_header, is_dynamic, is_load, is_within, share_address};
+ghost use Rattle.elf_load.specs.File.{program_header, is_dynamic, is_load, is_within, loaded_size, loaded_end};
 ghost use Rattle.elf_load.specs.Loading.{loads_bytes};
 
+use crate::format::{MEMORY_END, PT_DYNAMIC, PT_INTERP, PT_LOAD};
+use crate::range::AddressRange;
 use byteorder::{ByteOrder, LittleEndian};
 
 /// A program header's fields that are looked at (System V ABI, "Program Header").
@@ -55,13 +58,13 @@ impl ProgramHeader {
     pub(crate) fn is_dynamic(&self) -> bool
         ensures { result ≡ is_dynamic self.now }
     {
-        self.kind == 2 || self.kind == 3
+        self.kind == PT_DYNAMIC || self.kind == PT_INTERP
     }
 
     pub(crate) fn is_load(&self) -> bool
         ensures { result ≡ is_load self.now }
     {
-        self.kind == 1
+        self.kind == PT_LOAD
     }
 
     pub(crate) fn loads_bytes(&self) -> bool
@@ -76,15 +79,27 @@ impl ProgramHeader {
         self.file_size <= self.memory_size
             && (self.file_size == 0
                 || u64::from(self.offset) + u64::from(self.file_size) <= size as u64)
-            && u64::from(self.address) + u64::from(self.memory_size) <= 1 << 32
+            && u64::from(self.address) + u64::from(self.memory_size) <= MEMORY_END
     }
 
-    pub(crate) fn shares_address(&self, other: &ProgramHeader) -> bool
-        ensures { result ≡ share_address self.now other.now }
+    /// How many bytes it loads.
+    pub(crate) fn loaded_size(&self) -> u32
+        ensures { result ≡ loaded_size self.now }
     {
-        let end = u64::from(self.address) + u64::from(self.memory_size);
-        let other_end = u64::from(other.address) + u64::from(other.memory_size);
-        let first = u64::from(self.address.max(other.address));
-        self.is_load() && other.is_load() && first < end.min(other_end)
+        if self.is_load() { self.memory_size } else { 0 }
+    }
+}
+
+impl AddressRange for ProgramHeader {
+    ghost first = { λ header. header.address };
+
+    ghost past = { loaded_end };
+
+    fn start(&self) -> u64 {
+        u64::from(self.address)
+    }
+
+    fn end(&self) -> u64 {
+        u64::from(self.address) + u64::from(self.loaded_size())
     }
 }

@@ -1,3 +1,4 @@
+//! Why a file is refused.
 ghost use Rattle.std.specs.Prelude.{◌≡◌};
 ghost use Rattle.elf_load.specs.declared.refusal.ElfRefusal.TheVariants.{Memory};
 

@@ -1,23 +1,29 @@
-ghost use Rattle.std.specs.Prelude.{◌≡◌, ◌≤◌, ◌<◌, length, position, IfSome};
-ghost use Rattle.elf_load.specs.File.{first_of, header_rules, segment_rules, first_refusal, first_misplaced, first_overlap, share_address, is_static, has_small_memory, has_program_table};
+//! The rules that a file meets, tried in order.
+ghost use Rattle.std.specs.Prelude.{◌≡◌, ◌≤◌, ◌<◌, length, IfSome};
+ghost use Rattle.ct_rows.specs.Rules.{first_of};
+ghost use Rattle.elf_load.specs.File.{header_rules, segment_rules, first_refusal, first_misplaced, is_static, has_small_memory, has_program_table};
 
 use crate::file_header::FileHeader;
+use crate::format::{
+    ELF_MAGIC, ELFCLASS32, ELFDATA2LSB, EM_RISCV, ET_EXEC, EV_CURRENT, MOST_MEMORY,
+};
 use crate::program_header::ProgramHeader;
+use crate::range::first_overlap;
 use crate::refusal::ElfRefusal;
 use crate::table::program_table;
 
 fn header_refusal(header: &FileHeader) -> Option<ElfRefusal>
     ensures { result ≡ first_of (header_rules header.now) }
 {
-    if header.class != 1 {
+    if header.class != ELFCLASS32 {
         Some(ElfRefusal::Class)
-    } else if header.order != 1 {
+    } else if header.order != ELFDATA2LSB {
         Some(ElfRefusal::Order)
-    } else if header.identity_version != 1 || header.version != 1 {
+    } else if header.identity_version != EV_CURRENT || header.version != u32::from(EV_CURRENT) {
         Some(ElfRefusal::Version)
-    } else if header.kind != 2 {
+    } else if header.kind != ET_EXEC {
         Some(ElfRefusal::Kind)
-    } else if header.machine != 243 {
+    } else if header.machine != EM_RISCV {
         Some(ElfRefusal::Machine)
     } else if header.flags % 2 != 0 {
         Some(ElfRefusal::Compressed)
@@ -30,9 +36,10 @@ fn has_program_table(size: usize, header: &FileHeader) -> bool
     ensures { result ≡ has_program_table size header.now }
 {
     header.program_count >= 1
-        && header.program_count <= 64
-        && header.program_entry_size == 32
-        && header.program_table as usize + 32 * header.program_count as usize <= size
+        && header.program_count as usize <= ProgramHeader::MOST
+        && header.program_entry_size as usize == ProgramHeader::SIZE
+        && header.program_table as usize + ProgramHeader::SIZE * header.program_count as usize
+            <= size
 }
 
 fn is_static(headers: &[ProgramHeader]) -> bool
@@ -51,37 +58,15 @@ fn first_misplaced(size: usize, headers: &[ProgramHeader]) -> Option<usize>
         .position(|header| header.is_load() && !header.is_within(size))
 }
 
-fn first_sharing(header: &ProgramHeader, others: &[ProgramHeader]) -> Option<usize>
-    ensures first { result ≡ position (share_address header.now) others.now }
-    ensures within { IfSome result (λ distance. distance < length others.now) }
-{
-    others.iter().position(|other| header.shares_address(other))
-}
-
-#[tactic(auto, unfolding(crate::specs::File::first_overlap))]
-fn first_overlap(headers: &[ProgramHeader]) -> Option<(usize, usize)>
-    ensures first { result ≡ first_overlap headers.now }
-    ensures within { IfSome result (λ pair. (pair.0 < length headers.now) × (pair.1 < length headers.now)) }
-{
-    for (index, header) in headers.iter().enumerate() {
-        if let Some(distance) = first_sharing(header, &headers[index + 1..]) {
-            return Some((index, index + 1 + distance));
-        }
-    }
-    None
-}
-
 fn has_small_memory(headers: &[ProgramHeader]) -> bool
     requires { length headers.now ≤ 64 }
     ensures { result ≡ has_small_memory headers.now }
 {
     let mut total: u64 = 0;
     for header in headers {
-        if header.is_load() {
-            total += u64::from(header.memory_size);
-        }
+        total += u64::from(header.loaded_size());
     }
-    total <= 1 << 24
+    total <= MOST_MEMORY
 }
 
 fn segment_refusal(size: usize, headers: &[ProgramHeader]) -> Option<ElfRefusal>
@@ -112,7 +97,7 @@ pub(crate) fn first_refusal(bytes: &[u8]) -> Option<ElfRefusal>
     if bytes.len() < FileHeader::SIZE {
         return Some(ElfRefusal::Short);
     }
-    if !bytes.starts_with(&[0x7f, 0x45, 0x4c, 0x46]) {
+    if !bytes.starts_with(&ELF_MAGIC) {
         return Some(ElfRefusal::Magic);
     }
     let header = FileHeader::read(bytes);

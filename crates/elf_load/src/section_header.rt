@@ -1,6 +1,9 @@
+//! A section header of a file.
 ghost use Rattle.std.specs.Prelude.{◌≡◌, ◌+◌, ◌≤◌, length};
 ghost use Rattle.elf_load.specs.Symbols.{section_header, is_symbol_table, is_sound_symbol_table, is_sound_string_table, is_section_within};
 
+use crate::format::{SHT_STRTAB, SHT_SYMTAB};
+use crate::symbol_entry::SymbolEntry;
 use byteorder::{ByteOrder, LittleEndian};
 
 /// A section header's fields that are looked at (System V ABI, "Section Header").
@@ -39,7 +42,7 @@ impl SectionHeader {
     pub(crate) fn is_symbol_table(&self) -> bool
         ensures { result ≡ is_symbol_table self.now }
     {
-        self.kind == 2
+        self.kind == SHT_SYMTAB
     }
 
     pub(crate) fn is_within(&self, size: usize) -> bool
@@ -51,12 +54,12 @@ impl SectionHeader {
     pub(crate) fn is_sound_symbol_table(&self, size: usize) -> bool
         ensures { result ≡ is_sound_symbol_table size self.now }
     {
-        self.entry_size == 16 && self.is_within(size)
+        self.entry_size as usize == SymbolEntry::SIZE && self.is_within(size)
     }
 
     pub(crate) fn is_sound_string_table(&self, size: usize) -> bool
         ensures { result ≡ is_sound_string_table size self.now }
     {
-        self.kind == 3 && self.is_within(size)
+        self.kind == SHT_STRTAB && self.is_within(size)
     }
 }

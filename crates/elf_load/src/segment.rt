@@ -1,3 +1,4 @@
+//! A loaded part of memory.
 use ct_rows::Row;
 
 /// A loaded part of memory: the bytes that a program header of type PT_LOAD puts at its addresses

@@ -1,3 +1,4 @@
+//! A name for an address.
 ghost use Rattle.std.specs.Prelude.{◌≡◌};
 ghost use Rattle.elf_load.specs.Symbols.{is_global_named, is_local_named};
 

@@ -1,6 +1,8 @@
+//! An entry of a symbol table.
 ghost use Rattle.std.specs.Prelude.{◌≡◌, ◌+◌, ◌≤◌, length};
 ghost use Rattle.elf_load.specs.Symbols.{symbol_entry, names_address, is_global};
 
+use crate::format::{SHN_UNDEF, STB_GLOBAL, STB_WEAK, STT_FILE, STT_SECTION};
 use byteorder::{ByteOrder, LittleEndian};
 
 /// A symbol table entry's fields that are looked at (System V ABI, "Symbol Table").
@@ -36,12 +38,12 @@ impl SymbolEntry {
     pub(crate) fn names_address(&self) -> bool
         ensures { result ≡ names_address self.now }
     {
-        self.section != 0 && self.info % 16 != 3 && self.info % 16 != 4
+        self.section != SHN_UNDEF && self.info % 16 != STT_SECTION && self.info % 16 != STT_FILE
     }
 
     pub(crate) fn is_global(&self) -> bool
         ensures { result ≡ is_global self.now }
     {
-        self.info / 16 == 1 || self.info / 16 == 2
+        self.info / 16 == STB_GLOBAL || self.info / 16 == STB_WEAK
     }
 }

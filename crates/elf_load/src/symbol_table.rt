@@ -1,3 +1,4 @@
+//! The symbols of a file, from its section, symbol and string tables.
 ghost use Rattle.std.specs.Prelude.{◌≡◌, ◌+◌, ◌≤◌, ◌<◌, ◌==◌, length, find, position, IfOk, IfSome, IsTrue};
 ghost use Rattle.std.specs.Option.{option_map};
 ghost use Rattle.elf_load.specs.Fields.{bytes_at, entries};
@@ -18,7 +19,7 @@ const NAME_BYTES: usize = 1 << 28;
 fn has_section_table(size: usize, header: &FileHeader) -> bool
     ensures { result ≡ has_section_table size header.now }
 {
-    header.section_entry_size == 40
+    header.section_entry_size as usize == SectionHeader::SIZE
         && header.section_table as usize + SectionHeader::SIZE * header.section_count as usize
             <= size
 }

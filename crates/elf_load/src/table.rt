@@ -1,3 +1,4 @@
+//! The program header table of a file.
 ghost use Rattle.std.specs.Prelude.{◌≡◌, ◌+◌, ◌*◌, ◌≤◌, length, take};
 ghost use Rattle.elf_load.specs.Fields.{entries};
 ghost use Rattle.elf_load.specs.File.{program_header};

@@ -1,3 +1,4 @@
+//! Files with changed headers and symbols, and what is answered of each.
 use super::*;
 use std::alloc::{AllocError, Global};
 use std::test::*;
