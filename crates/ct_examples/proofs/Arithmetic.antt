@@ -4,7 +4,7 @@ use Rattle.std.specs.Prelude.{slice_index}
 use Rattle.ct_words.specs.Words.{alu_value}
 use Rattle.rv_decode.specs.Instructions.{instruction_of}
 use Rattle.rv_image.specs.Cell.{cells_from}
-use Rattle.rv_image.specs.Image.{cell_at, executable_at, loaded_at, word_at, executable_word_at, fetch_at}
+use Rattle.rv_image.specs.Image.{cell_at, allowed_at, loaded_at, word_at, executable_word_at, fetch_at}
 use Rattle.rv_machine.specs.State.{State}
 use Rattle.rv_machine.specs.Step.{perform, decoded_step, fetched_step, live_step, step}
 use Rattle.rv_machine.specs.Trail.{state_after}
@@ -19,35 +19,35 @@ result_of bytes left right = slice_index (state_after (cells_from 0x10054 true f
 
 -- div a3, a1, a2
 quotient_overflow : result_of (0xb3 ∷ 0xc6 ∷ 0xc5 ∷ 0x02 ∷ []) 0x80000000 0xffffffff ≡ 0x80000000
-unfolding state_after step live_step fetched_step decoded_step perform fetch_at executable_word_at executable_at word_at loaded_at cell_at cells_from instruction_of alu_value
+unfolding state_after step live_step fetched_step decoded_step perform fetch_at executable_word_at allowed_at word_at loaded_at cell_at cells_from instruction_of alu_value
 quotient_overflow = refl
 
 -- rem a3, a1, a2
 remainder_overflow : result_of (0xb3 ∷ 0xe6 ∷ 0xc5 ∷ 0x02 ∷ []) 0x80000000 0xffffffff ≡ 0
-unfolding state_after step live_step fetched_step decoded_step perform fetch_at executable_word_at executable_at word_at loaded_at cell_at cells_from instruction_of alu_value
+unfolding state_after step live_step fetched_step decoded_step perform fetch_at executable_word_at allowed_at word_at loaded_at cell_at cells_from instruction_of alu_value
 remainder_overflow = refl
 
 -- remu a3, a1, a2
 remainder_by_zero : result_of (0xb3 ∷ 0xf6 ∷ 0xc5 ∷ 0x02 ∷ []) 7 0 ≡ 7
-unfolding state_after step live_step fetched_step decoded_step perform fetch_at executable_word_at executable_at word_at loaded_at cell_at cells_from instruction_of alu_value
+unfolding state_after step live_step fetched_step decoded_step perform fetch_at executable_word_at allowed_at word_at loaded_at cell_at cells_from instruction_of alu_value
 remainder_by_zero = refl
 
 -- divu a3, a1, a2
 quotient_by_zero : result_of (0xb3 ∷ 0xd6 ∷ 0xc5 ∷ 0x02 ∷ []) 7 0 ≡ 0xffffffff
-unfolding state_after step live_step fetched_step decoded_step perform fetch_at executable_word_at executable_at word_at loaded_at cell_at cells_from instruction_of alu_value
+unfolding state_after step live_step fetched_step decoded_step perform fetch_at executable_word_at allowed_at word_at loaded_at cell_at cells_from instruction_of alu_value
 quotient_by_zero = refl
 
 -- mulhsu a3, a1, a2
 mixed_product : result_of (0xb3 ∷ 0xa6 ∷ 0xc5 ∷ 0x02 ∷ []) 0xffffffff 0xffffffff ≡ 0xffffffff
-unfolding state_after step live_step fetched_step decoded_step perform fetch_at executable_word_at executable_at word_at loaded_at cell_at cells_from instruction_of alu_value
+unfolding state_after step live_step fetched_step decoded_step perform fetch_at executable_word_at allowed_at word_at loaded_at cell_at cells_from instruction_of alu_value
 mixed_product = refl
 
 -- mulh a3, a1, a2
 signed_product : result_of (0xb3 ∷ 0x96 ∷ 0xc5 ∷ 0x02 ∷ []) 0x80000000 0x80000000 ≡ 0x40000000
-unfolding state_after step live_step fetched_step decoded_step perform fetch_at executable_word_at executable_at word_at loaded_at cell_at cells_from instruction_of alu_value
+unfolding state_after step live_step fetched_step decoded_step perform fetch_at executable_word_at allowed_at word_at loaded_at cell_at cells_from instruction_of alu_value
 signed_product = refl
 
 -- sll a3, a1, a2
 long_shift : result_of (0xb3 ∷ 0x96 ∷ 0xc5 ∷ 0x00 ∷ []) 5 32 ≡ 5
-unfolding state_after step live_step fetched_step decoded_step perform fetch_at executable_word_at executable_at word_at loaded_at cell_at cells_from instruction_of alu_value
+unfolding state_after step live_step fetched_step decoded_step perform fetch_at executable_word_at allowed_at word_at loaded_at cell_at cells_from instruction_of alu_value
 long_shift = refl

@@ -3,7 +3,7 @@ use Rattle.std.proofs.Common.{◌≡◌, ℕ, List, [], ◌∷◌, Option, Some,
 use Rattle.elf_load.specs.declared.elf.Elf.{Elf}
 use Rattle.elf_load.specs.Symbols.{symbol_value}
 use Rattle.rv_image.specs.Cell.{cells_from}
-use Rattle.rv_image.specs.Image.{cell_at, executable_at, loaded_at, word_at, executable_word_at, fetch_at}
+use Rattle.rv_image.specs.Image.{cell_at, allowed_at, loaded_at, word_at, executable_word_at, fetch_at}
 use Rattle.rv_image.specs.Loading.{zeros_of, parts_of, insert_part, put_part, in_order, part_cells, cells_of}
 use Rattle.ct_pairs.specs.declared.place.Place.TheVariants.{Register, Memory}
 use Rattle.ct_pairs.specs.declared.input_byte.InputByte.{InputByte}
@@ -36,7 +36,7 @@ abbrev secret_register : List ℕ
 secret_register = codes "format = 1\n[[input]]\nregister = \"a0\"\nbytes = 1\nkind = \"secret\"\n"
 
 accepted : first_policy_refusal returning secret_register ≡ None
-unfolding is_utf8 chars toml_on_literals document_of is_within word_of address_word register_of address_value register_value kind_value memory_value register_input memory_input input_value policy_of named_registers accessible input_regions extra_spans is_accessible first_outside first_overlap_from first_overlap fit_memory names_are_known numbers_are_within are_registers are_few can_start value_refusal memory_refusal first_policy_refusal cell_at executable_at loaded_at word_at executable_word_at fetch_at zeros_of parts_of insert_part put_part in_order part_cells cells_of cells_from
+unfolding is_utf8 chars toml_on_literals document_of is_within word_of address_word register_of address_value register_value kind_value memory_value register_input memory_input input_value policy_of named_registers accessible input_regions extra_spans is_accessible first_outside first_overlap_from first_overlap fit_memory names_are_known numbers_are_within are_registers are_few can_start value_refusal memory_refusal first_policy_refusal cell_at allowed_at loaded_at word_at executable_word_at fetch_at zeros_of parts_of insert_part put_part in_order part_cells cells_of cells_from
 accepted = refl
 
 one_byte : bytes_of secret_register ≡ Some (record { place = Register 10 0; secret = true } ∷ [])

@@ -3,7 +3,7 @@ use Rattle.std.proofs.Common.{◌≡◌, ℕ, List, [], ◌∷◌, ◌++◌, Som
 use Rattle.ct_words.specs.Words.{test_value}
 use Rattle.rv_decode.specs.Instructions.{instruction_of}
 use Rattle.rv_image.specs.Cell.{Cell, cells_from}
-use Rattle.rv_image.specs.Image.{cell_at, readable_at, executable_at, loaded_at, word_at, executable_word_at, fetch_at}
+use Rattle.rv_image.specs.Image.{cell_at, allowed_at, loaded_at, word_at, executable_word_at, fetch_at}
 use Rattle.rv_machine.specs.declared.touch.Touch.TheVariants as touches
 use Rattle.rv_machine.specs.declared.«record».Record.{Record}
 use Rattle.rv_machine.specs.State.{State}
@@ -34,13 +34,13 @@ abbrev goes : ℕ → ℕ → Record
 goes pc next = record { pc = pc; touch = touches.Nothing; next = Some next }
 
 taken : trail (image_of branching) (0 ∷ []) (start_with branching 0) 3 ≡ goes 0x10054 0x1005c ∷ goes 0x1005c 0 ∷ []
-unfolding trail state_after step live_step fetched_step decoded_step perform fetch_at executable_word_at executable_at word_at loaded_at cell_at cells_from instruction_of test_value
+unfolding trail state_after step live_step fetched_step decoded_step perform fetch_at executable_word_at allowed_at word_at loaded_at cell_at cells_from instruction_of test_value
 taken = refl
 
 not_taken : trail (image_of branching) (0 ∷ []) (start_with branching 1) 3 ≡ goes 0x10054 0x10058 ∷ goes 0x10058 0 ∷ []
-unfolding trail state_after step live_step fetched_step decoded_step perform fetch_at executable_word_at executable_at word_at loaded_at cell_at cells_from instruction_of test_value
+unfolding trail state_after step live_step fetched_step decoded_step perform fetch_at executable_word_at allowed_at word_at loaded_at cell_at cells_from instruction_of test_value
 not_taken = refl
 
 refused_load : trail (image_of loading) (0 ∷ []) (start_with loading 1) 3 ≡ record { pc = 0x10054; touch = touches.Load 1; next = None } ∷ []
-unfolding trail state_after step live_step fetched_step decoded_step perform load all_allowed fetch_at executable_word_at executable_at readable_at word_at loaded_at cell_at cells_from instruction_of
+unfolding trail state_after step live_step fetched_step decoded_step perform load all_allowed fetch_at executable_word_at allowed_at word_at loaded_at cell_at cells_from instruction_of
 refused_load = refl

@@ -7,7 +7,7 @@ use Rattle.std.proofs.lemmas.List.{get_or_default}
 use Rattle.std.proofs.lemmas.List.Sorted.{IsPartitionedBy-leb}
 use Rattle.rv_image.specs.declared.span.Span.{Span}
 use Rattle.rv_image.specs.Image.{cell_at, index_at, size_of}
-use Rattle.rv_image.specs.Place.{IsPlace}
+use Rattle.rv_image.specs.Location.{IsLocation}
 use Rattle.rv_image.specs.View.{cells_in, LiesFrom, total, IsLaidOut}
 use Rattle.rv_image.proofs.Spans.{LiesFrom-apart, find-cells_in-hit, find-cells_in-miss, count_by-cells_in, length-cells_in, total-take}
 
@@ -46,16 +46,16 @@ cell_at-miss spans starts bytes begun address d laid bound later past =
     ])
 
 -- the last span that begins at or below the address holds it
-pub IsPlace-hit : (spans : List Span) (starts bytes : List ℕ) (k address : ℕ) (d : Span) → IsLaidOut spans starts bytes → k < length spans
+pub IsLocation-hit : (spans : List Span) (starts bytes : List ℕ) (k address : ℕ) (d : Span) → IsLaidOut spans starts bytes → k < length spans
     → (get_or spans k d).address ≤ address → address - (get_or spans k d).address < (get_or spans k d).length
-    → IsPlace (cells_in spans bytes) address (record {
+    → IsLocation (cells_in spans bytes) address (record {
       span = get_or spans k d;
       index = get_or starts k 0 + (address - (get_or spans k d).address);
       byte = get_or bytes (get_or starts k 0 + (address - (get_or spans k d).address)) 0;
       left = (get_or spans k d).length - (address - (get_or spans k d).address);
     })
 unfolding cell_at index_at size_of
-IsPlace-hit spans starts bytes k address d laid inside from within =
+IsLocation-hit spans starts bytes k address d laid inside from within =
     let start : get_or starts k 0 ≡ total (take k spans) = laid.start_is k inside in
     let all = laid.byte_each in
     let hit = find-cells_in-hit spans bytes 0 k address d laid.ascending (omega arith) inside from (omega arith) in

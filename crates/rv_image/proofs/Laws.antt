@@ -8,35 +8,21 @@ use Rattle.std.proofs.lemmas.List.{append-nil, length-map}
 use Rattle.std.proofs.lemmas.List.Sums.{sum_by-cons}
 use Rattle.elf_load.specs.declared.elf.Elf.{Elf}
 use Rattle.elf_load.specs.Layout.{FitsMemory, segment_extents}
+use Rattle.rv_image.specs.declared.right.Right.{Right}
 use Rattle.rv_image.specs.Cell.{Cell}
-use Rattle.rv_image.specs.Image.{IsImage, cell_at, readable_at, writable_at, executable_at, loaded_at, index_at, size_of, bytes_of, word_at, executable_word_at, fetch_at}
+use Rattle.rv_image.specs.Image.{IsImage, cell_at, cell_right, allowed_at, loaded_at, index_at, size_of, bytes_of, word_at, executable_word_at, fetch_at}
 use Rattle.rv_image.specs.Loading.{CanBuild}
 
 -- an accessible address has the rights and the byte of its cell
 
-pub readable_at-Some : (cells : List Cell) (address : ℕ) (cell : Cell) → cell_at cells address ≡ Some cell → readable_at cells address ≡ cell.read
-unfolding readable_at
-readable_at-Some cells address cell found = rw found refl
+pub allowed_at-Some : (right : Right) (cells : List Cell) (address : ℕ) (cell : Cell) → cell_at cells address ≡ Some cell
+    → allowed_at right cells address ≡ cell_right right cell
+unfolding allowed_at
+allowed_at-Some right cells address cell found = rw found refl
 
-pub readable_at-None : (cells : List Cell) (address : ℕ) → cell_at cells address ≡ None → readable_at cells address ≡ false
-unfolding readable_at
-readable_at-None cells address none = rw none refl
-
-pub writable_at-Some : (cells : List Cell) (address : ℕ) (cell : Cell) → cell_at cells address ≡ Some cell → writable_at cells address ≡ cell.write
-unfolding writable_at
-writable_at-Some cells address cell found = rw found refl
-
-pub writable_at-None : (cells : List Cell) (address : ℕ) → cell_at cells address ≡ None → writable_at cells address ≡ false
-unfolding writable_at
-writable_at-None cells address none = rw none refl
-
-pub executable_at-Some : (cells : List Cell) (address : ℕ) (cell : Cell) → cell_at cells address ≡ Some cell → executable_at cells address ≡ cell.exec
-unfolding executable_at
-executable_at-Some cells address cell found = rw found refl
-
-pub executable_at-None : (cells : List Cell) (address : ℕ) → cell_at cells address ≡ None → executable_at cells address ≡ false
-unfolding executable_at
-executable_at-None cells address none = rw none refl
+pub allowed_at-None : (right : Right) (cells : List Cell) (address : ℕ) → cell_at cells address ≡ None → allowed_at right cells address ≡ false
+unfolding allowed_at
+allowed_at-None right cells address none = rw none refl
 
 pub loaded_at-Some : (cells : List Cell) (address : ℕ) (cell : Cell) → cell_at cells address ≡ Some cell → loaded_at cells address ≡ Some cell.byte
 unfolding loaded_at
@@ -67,28 +53,14 @@ right_of_some : (f : Cell → Bool) (o : Option Cell) → option_map_or f o fals
 right_of_some f None right = right
 right_of_some f (Some cell) right = refl
 
--- an address that may be loaded from is accessible
-pub readable_at-index_at : (cells : List Cell) (address : ℕ) → readable_at cells address ≡ true → is_some (index_at cells address) ≡ true
-unfolding readable_at index_at
-readable_at-index_at cells address right =
+-- an address with a right is accessible
+pub allowed_at-index_at : (right : Right) (cells : List Cell) (address : ℕ) → allowed_at right cells address ≡ true → is_some (index_at cells address) ≡ true
+unfolding allowed_at index_at
+allowed_at-index_at right cells address has =
     is_some-option_map (λ (_ : Cell). count_by (λ cell. ltb cell.address address) cells) (cell_at cells address)
-    ∙ right_of_some (λ (cell : Cell). cell.read) (cell_at cells address) right
+    ∙ right_of_some (cell_right right) (cell_at cells address) has
 
--- an address that may be stored to is accessible
-pub writable_at-index_at : (cells : List Cell) (address : ℕ) → writable_at cells address ≡ true → is_some (index_at cells address) ≡ true
-unfolding writable_at index_at
-writable_at-index_at cells address right =
-    is_some-option_map (λ (_ : Cell). count_by (λ cell. ltb cell.address address) cells) (cell_at cells address)
-    ∙ right_of_some (λ (cell : Cell). cell.write) (cell_at cells address) right
-
--- an address that may be executed is accessible
-pub executable_at-index_at : (cells : List Cell) (address : ℕ) → executable_at cells address ≡ true → is_some (index_at cells address) ≡ true
-unfolding executable_at index_at
-executable_at-index_at cells address right =
-    is_some-option_map (λ (_ : Cell). count_by (λ cell. ltb cell.address address) cells) (cell_at cells address)
-    ∙ right_of_some (λ (cell : Cell). cell.exec) (cell_at cells address) right
-
--- the index of an address is the place of its cell
+-- the index of an address is the location of its cell
 
 some_of : {A B : Type 0} (f : A → B) (o : Option A) (y : B) → option_map f o ≡ Some y → (x : A) × (o ≡ Some x) × (f x ≡ y)
 some_of f None y e = absurd cc
@@ -157,11 +129,11 @@ count_by-low (first ∷ cells) low address rises below =
     let none = count_by-low cells (suc first.address) address rises.1 (omega arith) in
     rw (split, no) (omega arith)
 
-cell_at-place : (cells : List Cell) (low address : ℕ) (cell d : Cell) → Rises low cells → cell_at cells address ≡ Some cell
+cell_at-location : (cells : List Cell) (low address : ℕ) (cell d : Cell) → Rises low cells → cell_at cells address ≡ Some cell
     → (count_by (λ c. ltb c.address address) cells < length cells) × (get_or cells (count_by (λ c. ltb c.address address) cells) d ≡ cell)
 unfolding Rises cell_at
-cell_at-place [] low address cell d rises found = absurd cc
-cell_at-place (first ∷ cells) low address cell d rises found =
+cell_at-location [] low address cell d rises found = absurd cc
+cell_at-location (first ∷ cells) low address cell d rises found =
     let split = sum_by-cons (λ (c : Cell). cond (ltb c.address address) 1 0) first cells in
     elim (found_here (eqb first.address address) first cell (cell_at cells address) found) [
       | inl here ↦
@@ -173,19 +145,19 @@ cell_at-place (first ∷ cells) low address cell d rises found =
       | inr later ↦
           let more = cell_at-low cells (suc first.address) address cell rises.1 later.1 in
           let yes = lt-ltb first.address address (omega arith) in
-          let rest = cell_at-place cells (suc first.address) address cell d rises.1 later.1 in
+          let rest = cell_at-location cells (suc first.address) address cell d rises.1 later.1 in
           let count : count_by (λ (c : Cell). ltb c.address address) (first ∷ cells) ≡ suc (count_by (λ (c : Cell). ltb c.address address) cells) = rw (split, yes) (omega arith) in
           rw count (omega (arith, rest.0), rest.1)
     ]
 
--- the index of an address is below the size, and the cell at this place is the address's
+-- the index of an address is below the size, and the cell at this location is the address's
 pub index_at-cell : (cells : List Cell) (address index : ℕ) (d : Cell) → IsImage cells → index_at cells address ≡ Some index
     → (index < size_of cells) × (cell_at cells address ≡ Some (get_or cells index d))
 unfolding index_at size_of
 index_at-cell cells address index d image found =
     let some = some_of (λ (_ : Cell). count_by (λ c. ltb c.address address) cells) (cell_at cells address) index found in
-    let place = cell_at-place cells 0 address some.0 d (Rises-all cells image.ascending) some.1 in
-    rw (← some.2) (place.0, some.1 ∙ ap (λ (c : Cell). Some c) (sym place.1))
+    let location = cell_at-location cells 0 address some.0 d (Rises-all cells image.ascending) some.1 in
+    rw (← some.2) (location.0, some.1 ∙ ap (λ (c : Cell). Some c) (sym location.1))
 
 -- the index of an address is below the size
 pub index_at-below : (cells : List Cell) (address index : ℕ) → IsImage cells → index_at cells address ≡ Some index → index < size_of cells

@@ -30,7 +30,7 @@ total-segments (segment ∷ segments) =
     let later = total-segments segments in
     omega (arith, length-append segment.bytes (flat_map (λ (s : Segment). s.bytes) segments))
 
--- the segments before a place and the one there are within all of them
+-- the segments before a location and the one there are within all of them
 pub total-segments_more : (segments : List Segment) (i : ℕ) (d : Segment) → i < length segments
     → total (map segment_span (take i segments)) + length (get_or segments i d).bytes ≤ total (map segment_span segments)
 unfolding segment_span

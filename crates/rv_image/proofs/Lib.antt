@@ -4,9 +4,10 @@ pub mod Ascending
 pub mod Halving
 pub mod Holding
 pub mod Laws
-pub mod RunLaws
+pub mod BlockLaws
 pub mod Ordering
 pub mod Putting
 pub mod Fetching
 pub mod Covering
 pub mod Laying
+pub mod Loaded

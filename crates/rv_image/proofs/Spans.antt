@@ -13,7 +13,7 @@ use Rattle.rv_image.proofs.Runs.{find-cells_from-hit, find-cells_from-miss, coun
 pub total-cons : (span : Span) (spans : List Span) → total (span ∷ spans) ≡ span.length + total spans
 total-cons span spans = sum_by-cons (λ (s : Span). s.length) span spans
 
--- the spans before a place and the span there are within all of them
+-- the spans before a location and the span there are within all of them
 pub total-take : (spans : List Span) (k : ℕ) (d : Span) → k < length spans → total (take k spans) + (get_or spans k d).length ≤ total spans
 total-take spans k d inside = sum_by_more_le (λ (s : Span). s.length) spans k d inside
 
@@ -44,7 +44,7 @@ LiesFrom-filled [] low k d lies inside = absurd (omega arith)
 LiesFrom-filled (span ∷ spans) low zero d lies inside = lies.1
 LiesFrom-filled (span ∷ spans) low (suc k) d lies inside = LiesFrom-filled spans (span.address + span.length) k d lies.3 (omega arith)
 
--- the cell at an address of the span at a place
+-- the cell at an address of the span at a location
 pub find-cells_in-hit : (spans : List Span) (bytes : List ℕ) (low i address : ℕ) (d : Span) → LiesFrom low spans → total spans ≤ length bytes → i < length spans
     → (get_or spans i d).address ≤ address → address < (get_or spans i d).address + (get_or spans i d).length
     → find (λ cell. eqb cell.address address) (cells_in spans bytes)
@@ -63,8 +63,8 @@ find-cells_in-hit (span ∷ spans) bytes low zero address d lies enough inside f
     let split = find-append (λ (cell : Cell). eqb cell.address address) run (cells_in spans (drop span.length bytes)) in
     let hit = find-cells_from-hit (take span.length bytes) span.address address span.read span.write span.exec from (omega (arith, length-take span.length bytes)) in
     let byte = get_or-take span.length bytes (address - span.address) 0 (omega arith) in
-    let place : address - span.address ≡ 0 + (address - span.address) = omega arith in
-    rw (split, hit, byte, ← place) refl
+    let location : address - span.address ≡ 0 + (address - span.address) = omega arith in
+    rw (split, hit, byte, ← location) refl
 find-cells_in-hit (span ∷ spans) bytes low (suc i) address d lies enough inside from before =
     let sum = total-cons span spans in
     let sums = total-cons span (take i spans) in
@@ -74,8 +74,8 @@ find-cells_in-hit (span ∷ spans) bytes low (suc i) address d lies enough insid
     let miss = find-cells_from-miss (take span.length bytes) span.address address span.read span.write span.exec (inr (omega (arith, length-take span.length bytes))) in
     let later = find-cells_in-hit spans (drop span.length bytes) (span.address + span.length) i address d lies.3 (omega (arith, length-drop span.length bytes)) (omega arith) from before in
     let byte = get_or-drop span.length bytes (total (take i spans) + (address - (get_or spans i d).address)) 0 in
-    let place : span.length + (total (take i spans) + (address - (get_or spans i d).address)) ≡ total (take (suc i) (span ∷ spans)) + (address - (get_or spans i d).address) = omega arith in
-    rw (split, miss, later, byte, place) refl
+    let location : span.length + (total (take i spans) + (address - (get_or spans i d).address)) ≡ total (take (suc i) (span ∷ spans)) + (address - (get_or spans i d).address) = omega arith in
+    rw (split, miss, later, byte, location) refl
 
 -- no cell is at an address that lies in no span
 pub find-cells_in-miss : (spans : List Span) (bytes : List ℕ) (address : ℕ)
@@ -105,7 +105,7 @@ count_by-cells_in-none (span ∷ spans) bytes low address lies below =
     let later = count_by-cells_in-none spans (drop span.length bytes) (span.address + span.length) address lies.3 (omega arith) in
     omega arith
 
--- how many cells are below an address of the span at a place
+-- how many cells are below an address of the span at a location
 pub count_by-cells_in : (spans : List Span) (bytes : List ℕ) (low i address : ℕ) (d : Span) → LiesFrom low spans → total spans ≤ length bytes → i < length spans
     → (get_or spans i d).address ≤ address → address < (get_or spans i d).address + (get_or spans i d).length
     → count_by (λ cell. ltb cell.address address) (cells_in spans bytes) ≡ total (take i spans) + (address - (get_or spans i d).address)

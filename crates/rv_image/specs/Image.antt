@@ -3,6 +3,9 @@ use Rattle.std.specs.Prelude.{ℕ, ◌+◌, ◌*◌, ◌%◌, ◌^◌, ◌<◌, 
 use Rattle.std.specs.List.{find}
 use Rattle.std.specs.List.Sorted.{IsStrictlyIncreasing}
 use Rattle.std.specs.Option.{option_map, option_map_or}
+use Rattle.rv_image.specs.declared.right.Right.{Right}
+use Rattle.rv_image.specs.declared.right.Right.TheVariants.{Read, Write, Execute}
+use Rattle.rv_image.specs.declared.span.Span.{Span}
 use Rattle.rv_image.specs.Cell.{Cell}
 
 -- the addresses ascend and have 32 bits, each byte is a byte, and there are at most 2^24 of them
@@ -16,17 +19,21 @@ pub record IsImage (cells : List Cell) : Type 0 where
 unfoldable pub cell_at : List Cell → ℕ → Option Cell
 cell_at cells address = find (λ cell. cell.address == address) cells
 
--- the address is accessible, and may be loaded from
-unfoldable pub readable_at : List Cell → ℕ → Bool
-readable_at cells address = option_map_or (λ cell. cell.read) (cell_at cells address) false
+-- the bytes of a span have the right
+abbrev pub span_right : Right → Span → Bool
+span_right Read span = span.read
+span_right Write span = span.write
+span_right Execute span = span.exec
 
--- the address is accessible, and may be stored to
-unfoldable pub writable_at : List Cell → ℕ → Bool
-writable_at cells address = option_map_or (λ cell. cell.write) (cell_at cells address) false
+-- the cell has the right
+abbrev pub cell_right : Right → Cell → Bool
+cell_right Read cell = cell.read
+cell_right Write cell = cell.write
+cell_right Execute cell = cell.exec
 
--- the address is accessible, and may be executed
-unfoldable pub executable_at : List Cell → ℕ → Bool
-executable_at cells address = option_map_or (λ cell. cell.exec) (cell_at cells address) false
+-- the address is accessible, and has the right
+unfoldable pub allowed_at : Right → List Cell → ℕ → Bool
+allowed_at right cells address = option_map_or (cell_right right) (cell_at cells address) false
 
 -- the byte that is loaded at an address; None where it isn't accessible
 unfoldable pub loaded_at : List Cell → ℕ → Option ℕ
@@ -55,10 +62,10 @@ word_at cells address =
 -- the four bytes from an address on may be executed
 unfoldable pub executable_word_at : List Cell → ℕ → Bool
 executable_word_at cells address =
-    executable_at cells address
-    && (executable_at cells (address + 1)
-    && (executable_at cells (address + 2)
-    && executable_at cells (address + 3)))
+    allowed_at Execute cells address
+    && (allowed_at Execute cells (address + 1)
+    && (allowed_at Execute cells (address + 2)
+    && allowed_at Execute cells (address + 3)))
 
 -- the instruction word at pc; None where pc isn't a multiple of 4 or one of its four bytes isn't executable
 unfoldable pub fetch_at : List Cell → ℕ → Option ℕ

@@ -1,8 +1,9 @@
+pub mod Block
 pub mod Cell
 pub mod Image
+pub mod Loaded
 pub mod Loading
 pub mod Part
-pub mod Place
+pub mod Location
 pub mod Ranges
-pub mod Run
 pub mod View

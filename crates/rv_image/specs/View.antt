@@ -19,7 +19,7 @@ LiesFrom low (span ∷ spans) =
 abbrev pub total : List Span → ℕ
 total spans = sum_by (λ span. span.length) spans
 
--- how spans and bytes fit: each span starts at its place among the bytes
+-- how spans and bytes fit: each span starts at its location among the bytes
 pub record IsLaidOut (spans : List Span) (starts bytes : List ℕ) : Type 0 where
   pub ascending : LiesFrom 0 spans
   pub start_each : length starts ≡ length spans

@@ -1,14 +1,17 @@
+//! The memory at the start of a run.
 ghost use Rattle.std.specs.Prelude.{◌≡◌, ◌+◌, ◌<◌, ◌≤◌, ◌^◌, ◌%◌, false, IfOk, IfSome, MatchOption, None, All};
 ghost use Rattle.std.specs.List.{flat_map};
-ghost use Rattle.rv_image.specs.Image.{IsImage, cell_at, readable_at, writable_at, loaded_at, index_at, executable_at, fetch_at, size_of, bytes_of};
+ghost use Rattle.rv_image.specs.Image.{IsImage, cell_at, allowed_at, loaded_at, index_at, fetch_at, size_of, bytes_of};
 ghost use Rattle.rv_image.specs.Loading.{CanBuild, cells_of, part_cells};
-ghost use Rattle.rv_image.specs.Place.{IsExecutable, IsHeld, little_word};
+ghost use Rattle.rv_image.specs.Location.{IsExecutable, IsHeld, little_word};
 ghost use Rattle.rv_image.specs.Ranges.{rights_of, rights_in};
-ghost use Rattle.rv_image.specs.Run.{readable_run_at, writable_run_at, IsRun};
+ghost use Rattle.rv_image.specs.declared.right.Right.TheVariants as rights;
+ghost use Rattle.rv_image.specs.Block.{allowed_block_at, IsBlock};
 ghost use Rattle.rv_image.specs.View.{LiesFrom, total};
 
+use crate::location::Location;
 use crate::part::Part;
-use crate::place::Place;
+use crate::right::Right;
 use crate::span::Span;
 use elf_load::Elf;
 use std::alloc::{AllocError, Global};
@@ -38,7 +41,7 @@ impl Model for Image {
 }
 
 impl Image {
-    ghost use Rattle.rv_image.specs.Place.{IsPlace};
+    ghost use Rattle.rv_image.specs.Location.{IsLocation};
     ghost use Rattle.rv_image.specs.Part.{part_segments, part_spans};
 
     /// The image of an executable and of extra spans, which hold zeros.
@@ -50,24 +53,13 @@ impl Image {
         Image::lay_out(alloc, &parts)
     }
 
-    /// Whether the byte at an address may be loaded.
-    #[tactic(auto, unfolding(crate::specs::Image::readable_at))]
-    pub fn readable(&self, address: u32) -> bool
-        ensures { result ≡ readable_at self.now address }
+    /// Whether the byte at an address has a right.
+    #[tactic(auto, unfolding(crate::specs::Image::allowed_at))]
+    pub fn allows(&self, right: Right, address: u32) -> bool
+        ensures { result ≡ allowed_at right self.now address }
     {
-        match self.place(address) {
-            Some(place) => place.span.read,
-            None => false,
-        }
-    }
-
-    /// Whether the byte at an address may be stored to.
-    #[tactic(auto, unfolding(crate::specs::Image::writable_at))]
-    pub fn writable(&self, address: u32) -> bool
-        ensures { result ≡ writable_at self.now address }
-    {
-        match self.place(address) {
-            Some(place) => place.span.write,
+        match self.location(address) {
+            Some(location) => location.span.allows(right),
             None => false,
         }
     }
@@ -77,8 +69,8 @@ impl Image {
     pub fn loaded(&self, address: u32) -> Option<u8>
         ensures { result ≡ loaded_at self.now address }
     {
-        match self.place(address) {
-            Some(place) => Some(place.byte),
+        match self.location(address) {
+            Some(location) => Some(location.byte),
             None => None,
         }
     }
@@ -86,44 +78,27 @@ impl Image {
     /// The number of accessible bytes at lower addresses, if the address is accessible.
     #[tactic(auto, unfolding(crate::specs::Image::index_at))]
     pub fn index_of(&self, address: u32) -> Option<u32>
-        ensures place { result ≡ index_at self.now address }
+        ensures location { result ≡ index_at self.now address }
         ensures within { IfSome result (λ index. index < size_of self.now) }
     {
-        match self.place(address) {
-            Some(place) => Some(place.index),
+        match self.location(address) {
+            Some(location) => Some(location.index),
             None => None,
         }
     }
 
-    /// The index of the first of `count` addresses in a row, where all may be loaded from and none
-    /// passes 2^32.
-    pub fn readable_run(&self, address: u32, count: u32) -> Option<u32>
+    /// The index of the first of `count` addresses in a row, where all have a right and none
+    /// passes 2^32. The bytes of the others follow its byte.
+    pub fn block(&self, right: Right, address: u32, count: u32) -> Option<u32>
         requires { 0 < count }
-        ensures first { result ≡ readable_run_at self.now address count }
-        ensures others { IfSome result (IsRun self.now address count) }
+        ensures first { result ≡ allowed_block_at right self.now address count }
+        ensures others { IfSome result (IsBlock self.now address count) }
     {
-        let Some(place) = self.place_in_span(address, count) else {
-            return self.readable_each(address, count);
+        let Some(location) = self.location_in_span(address, count) else {
+            return self.block_each(right, address, count);
         };
-        if place.span.read {
-            Some(place.index)
-        } else {
-            None
-        }
-    }
-
-    /// The index of the first of `count` addresses in a row, where all may be stored to and none
-    /// passes 2^32.
-    pub fn writable_run(&self, address: u32, count: u32) -> Option<u32>
-        requires { 0 < count }
-        ensures first { result ≡ writable_run_at self.now address count }
-        ensures others { IfSome result (IsRun self.now address count) }
-    {
-        let Some(place) = self.place_in_span(address, count) else {
-            return self.writable_each(address, count);
-        };
-        if place.span.write {
-            Some(place.index)
+        if location.span.allows(right) {
+            Some(location.index)
         } else {
             None
         }
@@ -136,11 +111,11 @@ impl Image {
         if pc % 4 != 0 {
             return None;
         }
-        let Some(place) = self.place_in_span(pc, 4) else {
+        let Some(location) = self.location_in_span(pc, 4) else {
             return self.fetch_each(pc);
         };
-        if place.span.exec {
-            Some(self.word(place.index))
+        if location.span.exec {
+            Some(self.word(location.index))
         } else {
             None
         }
@@ -172,32 +147,17 @@ impl Image {
         Some(u32::from_le_bytes([first, second, third, fourth]))
     }
 
-    #[tactic(auto, using(crate::proofs::RunLaws::each_allowed_next), unfolding(crate::specs::Run::run_at, crate::specs::Run::each_allowed))]
-    fn readable_each(&self, address: u32, count: u32) -> Option<u32>
+    /// The same, address by address, for a block that no span holds whole.
+    #[tactic(auto, using(crate::proofs::BlockLaws::each_allowed_next), unfolding(crate::specs::Block::block_at, crate::specs::Block::each_allowed))]
+    fn block_each(&self, right: Right, address: u32, count: u32) -> Option<u32>
         requires { 0 < count }
-        ensures { result ≡ readable_run_at self.now address count }
+        ensures { result ≡ allowed_block_at right self.now address count }
     {
         if count - 1 > u32::MAX - address {
             return None;
         }
         'addresses: for k in 0..count {
-            if !self.readable(address + k) {
-                return None;
-            }
-        }
-        self.index_of(address)
-    }
-
-    #[tactic(auto, using(crate::proofs::RunLaws::each_allowed_next), unfolding(crate::specs::Run::run_at, crate::specs::Run::each_allowed))]
-    fn writable_each(&self, address: u32, count: u32) -> Option<u32>
-        requires { 0 < count }
-        ensures { result ≡ writable_run_at self.now address count }
-    {
-        if count - 1 > u32::MAX - address {
-            return None;
-        }
-        'addresses: for k in 0..count {
-            if !self.writable(address + k) {
+            if !self.allows(right, address + k) {
                 return None;
             }
         }
@@ -205,14 +165,14 @@ impl Image {
     }
 
     /// The byte at an address that may be executed.
-    #[tactic(auto, unfolding(crate::specs::Image::executable_at, crate::specs::Image::loaded_at))]
+    #[tactic(auto, unfolding(crate::specs::Image::allowed_at, crate::specs::Image::loaded_at))]
     fn executable(&self, address: u32) -> Option<u8>
-        ensures { MatchOption result (executable_at self.now address ≡ false) (IsExecutable self.now address) }
+        ensures { MatchOption result (allowed_at rights.Execute self.now address ≡ false) (IsExecutable self.now address) }
     {
-        match self.place(address) {
-            Some(place) => {
-                if place.span.exec {
-                    Some(place.byte)
+        match self.location(address) {
+            Some(location) => {
+                if location.span.exec {
+                    Some(location.byte)
                 } else {
                     None
                 }
@@ -275,22 +235,22 @@ impl Image {
         })
     }
 
-    fn place(&self, address: u32) -> Option<Place>
-        ensures place { MatchOption result (cell_at self.now address ≡ None) (IsPlace self.now address) }
-        ensures held { IfSome result (λ place. IsHeld self.now address place.left place) }
+    fn location(&self, address: u32) -> Option<Location>
+        ensures location { MatchOption result (cell_at self.now address ≡ None) (IsLocation self.now address) }
+        ensures held { IfSome result (λ location. IsHeld self.now address location.left location) }
         ensures image { IsImage self.now }
     {
-        Place::of(&self.spans, &self.starts, &self.bytes, address)
+        Location::of(&self.spans, &self.starts, &self.bytes, address)
     }
 
-    /// The place of the first of `count` addresses in a row, where one span holds them all.
-    fn place_in_span(&self, address: u32, count: u32) -> Option<Place>
+    /// The location of the first of `count` addresses in a row, where one span holds them all.
+    fn location_in_span(&self, address: u32, count: u32) -> Option<Location>
         ensures held { IfSome result (IsHeld self.now address count) }
         ensures image { IsImage self.now }
     {
-        let place = self.place(address)?;
-        if count <= place.left {
-            Some(place)
+        let location = self.location(address)?;
+        if count <= location.left {
+            Some(location)
         } else {
             None
         }
@@ -299,7 +259,7 @@ impl Image {
 
 #[cfg(test)]
 mod tests {
-    use crate::{Image, Span};
+    use crate::{Image, Right, Span};
     use ct_rows::Row;
     use elf_load::{Elf, Segment};
     use std::alloc::{AllocError, Global};
@@ -358,8 +318,8 @@ mod tests {
             (0x20004, false, false, None, None, None),
         ];
         for (address, read, write, byte, index, word) in rows {
-            assert_eq!(rt; image.readable(address), read);
-            assert_eq!(rt; image.writable(address), write);
+            assert_eq!(rt; image.allows(Right::Read, address), read);
+            assert_eq!(rt; image.allows(Right::Write, address), write);
             assert_eq!(rt; image.loaded(address), byte);
             assert_eq!(rt; image.index_of(address), index);
             assert_eq!(rt; image.fetch(address), word);
@@ -375,8 +335,8 @@ mod tests {
             (0xffff_fffe, 4, None, None),
         ];
         for (address, count, readable, writable) in runs {
-            assert_eq!(rt; image.readable_run(address, count), readable);
-            assert_eq!(rt; image.writable_run(address, count), writable);
+            assert_eq!(rt; image.block(Right::Read, address, count), readable);
+            assert_eq!(rt; image.block(Right::Write, address, count), writable);
         }
         assert_eq!(rt; image.size(), 10);
         assert_eq!(rt; image.ranges().len(), 4);

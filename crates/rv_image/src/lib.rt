@@ -3,9 +3,13 @@
 #![tactic(auto)]
 
 mod image;
+mod loading;
+mod location;
 mod part;
-mod place;
+mod right;
 mod span;
 
 pub use image::Image;
+pub use loading::loading_law;
+pub use right::Right;
 pub use span::Span;

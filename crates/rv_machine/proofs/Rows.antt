@@ -2,8 +2,8 @@
 use Rattle.std.proofs.Common.{◌≡◌, ℕ, zero, suc, ◌+◌, ◌*◌, ◌/◌, ◌%◌, ◌^◌, ◌≤◌, Bool, true, ◌&&◌, List, Some, length, refl, ap, ◌∙◌, arith, length-set, slice_index, slice_set}
 use Rattle.rv_image.specs.Cell.{Cell}
 use Rattle.rv_image.specs.Image.{index_at}
-use Rattle.rv_image.specs.Run.{each_allowed, run_at, IsRun}
-use Rattle.rv_image.proofs.RunLaws.{run_at-each}
+use Rattle.rv_image.specs.Block.{each_allowed, block_at, IsBlock}
+use Rattle.rv_image.proofs.BlockLaws.{block_at-each}
 use Rattle.rv_machine.specs.Row.{row_value, row_written}
 use Rattle.rv_machine.specs.State.{State}
 use Rattle.rv_machine.specs.Step.{wrapped, loaded_value, bytes_stored, all_allowed}
@@ -46,8 +46,8 @@ length_row_written bytes index zero v = refl
 length_row_written bytes index (suc n) v = length_row_written (slice_set bytes index (v % 256)) (suc index) n (v / 256) ∙ simp length-set
 
 -- the indices of a row after the first one
-IsRun-next : (image : List Cell) (a n index : ℕ) → IsRun image a (suc n) index → IsRun image (suc a) n (suc index)
-IsRun-next image a n index run = record {
+IsBlock-next : (image : List Cell) (a n index : ℕ) → IsBlock image a (suc n) index → IsBlock image (suc a) n (suc index)
+IsBlock-next image a n index run = record {
   fits = let fits = run.fits in omega arith;
   each = λ k less.
       let at : suc a + k ≡ a + suc k = omega arith in
@@ -56,8 +56,8 @@ IsRun-next image a n index run = record {
   within = let within = run.within in omega arith;
 }
 
-IsRun-first : (image : List Cell) (a n index : ℕ) → IsRun image a (suc n) index → index_at image a ≡ Some index
-IsRun-first image a n index run =
+IsBlock-first : (image : List Cell) (a n index : ℕ) → IsBlock image a (suc n) index → index_at image a ≡ Some index
+IsBlock-first image a n index run =
     let at : a + 0 ≡ a = omega arith in
     let to : index + 0 ≡ index = omega arith in
     rw (at, to) at (run.each 0 (omega arith))
@@ -73,22 +73,22 @@ all_allowed_row can a (suc (suc n)) fits =
     rw next (ap (λ (b : Bool). can a && b) rest)
 
 -- a row that has an answer has the right
-pub all_allowed_run : (can : ℕ → Bool) (image : List Cell) (a n index : ℕ) → run_at can image a n ≡ Some index → IsRun image a n index → all_allowed can a n ≡ true
-all_allowed_run can image a n index found run = all_allowed_row can a n run.fits ∙ run_at-each can image a n index found
+pub all_allowed_run : (can : ℕ → Bool) (image : List Cell) (a n index : ℕ) → block_at can image a n ≡ Some index → IsBlock image a n index → all_allowed can a n ≡ true
+all_allowed_run can image a n index found run = all_allowed_row can a n run.fits ∙ block_at-each can image a n index found
 
-pub loaded_run : (image : List Cell) (s : State) (a n index : ℕ) → IsRun image a n index → loaded_value image s a n ≡ row_value s.bytes index n
+pub loaded_run : (image : List Cell) (s : State) (a n index : ℕ) → IsBlock image a n index → loaded_value image s a n ≡ row_value s.bytes index n
 unfolding loaded_value row_value
 loaded_run image s a zero index run = refl
-loaded_run image s a (suc zero) index run = rw (IsRun-first image a zero index run) refl
+loaded_run image s a (suc zero) index run = rw (IsBlock-first image a zero index run) refl
 loaded_run image s a (suc (suc n)) index run =
     let next : wrapped (a + 1) ≡ suc a = let fits = run.fits in omega arith in
-    let rest = loaded_run image s (suc a) (suc n) (suc index) (IsRun-next image a (suc n) index run) in
-    rw (IsRun-first image a (suc n) index run, next) (ap (λ (v : ℕ). slice_index s.bytes index + 256 * v) rest)
+    let rest = loaded_run image s (suc a) (suc n) (suc index) (IsBlock-next image a (suc n) index run) in
+    rw (IsBlock-first image a (suc n) index run, next) (ap (λ (v : ℕ). slice_index s.bytes index + 256 * v) rest)
 
-pub stored_run : (image : List Cell) (bytes : List ℕ) (a n v index : ℕ) → IsRun image a n index → bytes_stored image bytes a n v ≡ row_written bytes index n v
+pub stored_run : (image : List Cell) (bytes : List ℕ) (a n v index : ℕ) → IsBlock image a n index → bytes_stored image bytes a n v ≡ row_written bytes index n v
 unfolding bytes_stored row_written
 stored_run image bytes a zero v index run = refl
-stored_run image bytes a (suc zero) v index run = rw (IsRun-first image a zero index run) refl
+stored_run image bytes a (suc zero) v index run = rw (IsBlock-first image a zero index run) refl
 stored_run image bytes a (suc (suc n)) v index run =
     let next : wrapped (a + 1) ≡ suc a = let fits = run.fits in omega arith in
-    rw (IsRun-first image a (suc n) index run, next) (stored_run image (slice_set bytes index (v % 256)) (suc a) (suc n) (v / 256) (suc index) (IsRun-next image a (suc n) index run))
+    rw (IsBlock-first image a (suc n) index run, next) (stored_run image (slice_set bytes index (v % 256)) (suc a) (suc n) (v / 256) (suc index) (IsBlock-next image a (suc n) index run))

@@ -6,8 +6,9 @@ use Rattle.ct_words.specs.Words.{extend_value}
 use Rattle.rv_decode.specs.declared.instr.Instr.{Instr}
 use Rattle.rv_decode.specs.declared.instr.Instr.TheVariants.{Lui, Auipc, Jal, Jalr, Branch, Load, Store, OpImm, Op, Fence, Call, Break}
 use Rattle.rv_decode.specs.Instructions.{instruction_of}
+use Rattle.rv_image.specs.declared.right.Right.TheVariants as rights
 use Rattle.rv_image.specs.Cell.{Cell}
-use Rattle.rv_image.specs.Image.{readable_at, writable_at, fetch_at}
+use Rattle.rv_image.specs.Image.{allowed_at, fetch_at}
 use Rattle.rv_machine.specs.declared.touch.Touch.{Touch}
 use Rattle.rv_machine.specs.declared.touch.Touch.TheVariants as touches
 use Rattle.rv_machine.specs.declared.«record».Record.{Record}
@@ -82,12 +83,12 @@ either_is s false t u p q = q
 load_is : (image : List Cell) (s : State) (rd a bytes : ℕ) (signed : Bool) → IsTransition s (load image s rd a bytes signed)
 unfolding load
 load_is image s rd a bytes signed =
-    either_is s (all_allowed (readable_at image) a bytes) _ _ (goes_is s _ _ _ (written_keeps s rd _) (wrapped_below _)) (faults_is s _)
+    either_is s (all_allowed (allowed_at rights.Read image) a bytes) _ _ (goes_is s _ _ _ (written_keeps s rd _) (wrapped_below _)) (faults_is s _)
 
 store_is : (image : List Cell) (s : State) (a bytes v : ℕ) → IsTransition s (store image s a bytes v)
 unfolding store
 store_is image s a bytes v =
-    either_is s (all_allowed (writable_at image) a bytes) _ _ (goes_is s _ _ _ (stored_keeps image s a bytes v) (wrapped_below _)) (faults_is s _)
+    either_is s (all_allowed (allowed_at rights.Write image) a bytes) _ _ (goes_is s _ _ _ (stored_keeps image s a bytes v) (wrapped_below _)) (faults_is s _)
 
 perform_is : (image : List Cell) (s : State) (instr : Instr) → IsTransition s (perform image s instr)
 unfolding perform
@@ -233,12 +234,12 @@ moved_seen false s t touch next = refl
 load_seen : (image : List Cell) (s : State) (rd a bytes : ℕ) (signed : Bool) → IsSome (load image s rd a bytes signed).seen
 unfolding load
 load_seen image s rd a bytes signed =
-    moved_seen (all_allowed (readable_at image) a bytes) s (register_written s rd (extend_value (loaded_value image s a bytes) bytes signed)) (touches.Load a) (following s)
+    moved_seen (all_allowed (allowed_at rights.Read image) a bytes) s (register_written s rd (extend_value (loaded_value image s a bytes) bytes signed)) (touches.Load a) (following s)
 
 store_seen : (image : List Cell) (s : State) (a bytes v : ℕ) → IsSome (store image s a bytes v).seen
 unfolding store
 store_seen image s a bytes v =
-    moved_seen (all_allowed (writable_at image) a bytes) s (record s { bytes = bytes_stored image s.bytes a bytes v }) (touches.Store a) (following s)
+    moved_seen (all_allowed (allowed_at rights.Write image) a bytes) s (record s { bytes = bytes_stored image s.bytes a bytes v }) (touches.Store a) (following s)
 
 instr_ends_at : (image : List Cell) (s : State) (instr : Option Instr) → EndsAt s (instr_ending instr) (decoded_step image s instr)
 unfolding decoded_step perform

@@ -6,8 +6,9 @@ use Rattle.ct_words.specs.Words.{alu_value, test_value, extend_value}
 use Rattle.rv_decode.specs.declared.instr.Instr.{Instr}
 use Rattle.rv_decode.specs.declared.instr.Instr.TheVariants.{Lui, Auipc, Jal, Jalr, Branch, Load, Store, OpImm, Op, Fence, Call, Break}
 use Rattle.rv_decode.specs.Instructions.{instruction_of}
+use Rattle.rv_image.specs.declared.right.Right.TheVariants as rights
 use Rattle.rv_image.specs.Cell.{Cell}
-use Rattle.rv_image.specs.Image.{readable_at, writable_at, index_at, fetch_at}
+use Rattle.rv_image.specs.Image.{allowed_at, index_at, fetch_at}
 use Rattle.rv_machine.specs.declared.touch.Touch.{Touch}
 use Rattle.rv_machine.specs.declared.touch.Touch.TheVariants as touches
 use Rattle.rv_machine.specs.declared.«record».Record.{Record}
@@ -81,14 +82,14 @@ even a = a - a % 2
 -- a load needs the read right on each byte
 unfoldable pub load : List Cell → State → ℕ → ℕ → ℕ → Bool → Transition
 load image s rd a bytes signed =
-    if all_allowed (readable_at image) a bytes
+    if all_allowed (allowed_at rights.Read image) a bytes
     then goes (register_written s rd (extend_value (loaded_value image s a bytes) bytes signed)) (touches.Load a) (following s)
     else faults s (touches.Load a)
 
 -- a store needs the write right on each byte
 unfoldable pub store : List Cell → State → ℕ → ℕ → ℕ → Transition
 store image s a bytes v =
-    if all_allowed (writable_at image) a bytes
+    if all_allowed (allowed_at rights.Write image) a bytes
     then goes (record s { bytes = bytes_stored image s.bytes a bytes v }) (touches.Store a) (following s)
     else faults s (touches.Store a)
 

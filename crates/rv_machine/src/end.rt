@@ -1,3 +1,4 @@
+//! Why a run ended.
 /// Why a run ended.
 #[derive(Clone, Copy, Debug, PartialEq, Eq)]
 pub enum End {

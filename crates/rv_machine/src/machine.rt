@@ -1,7 +1,9 @@
+//! The machine: its state, one step, and a run.
 ghost use Rattle.std.specs.Prelude.{◌≡◌, ◌+◌, ◌%◌, ◌^◌, ◌<◌, ◌≤◌, ◌==◌, ◌↔◌, if◌then◌else◌, Some, None, IfOk, IsNone, length, replicate, slice_set};
 ghost use Rattle.ct_words.specs.Words.{extend_value, test_value, IsAccessSize};
 ghost use Rattle.rv_decode.specs.Instructions.{InRange};
-ghost use Rattle.rv_image.specs.Image.{readable_at, writable_at, fetch_at, bytes_of, size_of};
+ghost use Rattle.rv_image.specs.Image.{allowed_at, fetch_at, bytes_of, size_of};
+ghost use Rattle.rv_image.specs.declared.right.Right.TheVariants as rights;
 ghost use Rattle.rv_machine.specs.declared.end.End.TheVariants as endings;
 ghost use Rattle.rv_machine.specs.declared.touch.Touch.TheVariants as touches;
 ghost use Rattle.rv_machine.specs.Row.{row_value, row_written};
@@ -17,7 +19,7 @@ use crate::stepped::Stepped;
 use crate::touch::Touch;
 use ct_words::{Cond, alu, extend, test};
 use rv_decode::{Instr, decode};
-use rv_image::Image;
+use rv_image::{Image, Right};
 use std::alloc::{AllocError, Global};
 use std::marker::Model;
 
@@ -187,17 +189,18 @@ impl Machine {
         }
     }
 
-    /// The little-endian number of the bytes from an address on, where each may be loaded from.
+    /// The little-endian number of the bytes from an address on, where each may be loaded from. Byte
+    /// by byte it goes where an access wraps at 2^32, which no block of addresses does.
     fn read(&self, image: &Image, address: u32, bytes: u32) -> Option<u32>
         requires size { length self.now.bytes ≡ size_of image.now }
         requires access { IsAccessSize bytes }
         ensures { result
-            ≡ (if all_allowed (readable_at image.now) address bytes then Some (loaded_value image.now self.now address bytes) else None) }
+            ≡ (if all_allowed (allowed_at rights.Read image.now) address bytes then Some (loaded_value image.now self.now address bytes) else None) }
     {
-        if let Some(index) = image.readable_run(address, bytes) {
+        if let Some(index) = image.block(Right::Read, address, bytes) {
             return Some(self.value_at(index, bytes));
         }
-        if all_readable(image, address, bytes) {
+        if all_allowed(image, Right::Read, address, bytes) {
             Some(self.loaded(image, address, bytes))
         } else {
             None
@@ -253,19 +256,20 @@ impl Machine {
         }
     }
 
-    /// Writes the low bytes of a value from an address on, where each may be stored to.
+    /// Writes the low bytes of a value from an address on, where each may be stored to; byte by byte
+    /// where the access wraps at 2^32.
     fn write(&mut self, image: &Image, address: u32, bytes: u32, value: u32) -> bool
         requires size { length self.old.bytes ≡ size_of image.now }
         requires access { IsAccessSize bytes }
-        ensures allowed { result ≡ all_allowed (writable_at image.now) address bytes }
+        ensures allowed { result ≡ all_allowed (allowed_at rights.Write image.now) address bytes }
         ensures after { self.new
-            ≡ (if all_allowed (writable_at image.now) address bytes then record self.old { bytes = bytes_stored image.now self.old.bytes address bytes value } else self.old) }
+            ≡ (if all_allowed (allowed_at rights.Write image.now) address bytes then record self.old { bytes = bytes_stored image.now self.old.bytes address bytes value } else self.old) }
     {
-        if let Some(index) = image.writable_run(address, bytes) {
+        if let Some(index) = image.block(Right::Write, address, bytes) {
             self.set_value(index, bytes, value);
             return true;
         }
-        if !all_writable(image, address, bytes) {
+        if !all_allowed(image, Right::Write, address, bytes) {
             return false;
         }
         self.store_bytes(image, address, bytes, value);
@@ -496,26 +500,12 @@ impl Machine {
 }
 
 #[tactic(auto, using(crate::proofs::Memory::all_allowed_next), unfolding(crate::specs::Step::all_allowed))]
-fn all_readable(image: &Image, address: u32, bytes: u32) -> bool
-    ensures { result ≡ all_allowed (readable_at image.now) address bytes }
+fn all_allowed(image: &Image, right: Right, address: u32, bytes: u32) -> bool
+    ensures { result ≡ all_allowed (allowed_at right image.now) address bytes }
 {
     let mut at = address;
     'bytes: for _i in 0..bytes {
-        if !image.readable(at) {
-            return false;
-        }
-        at = at.wrapping_add(1);
-    }
-    true
-}
-
-#[tactic(auto, using(crate::proofs::Memory::all_allowed_next), unfolding(crate::specs::Step::all_allowed))]
-fn all_writable(image: &Image, address: u32, bytes: u32) -> bool
-    ensures { result ≡ all_allowed (writable_at image.now) address bytes }
-{
-    let mut at = address;
-    'bytes: for _i in 0..bytes {
-        if !image.writable(at) {
+        if !image.allows(right, at) {
             return false;
         }
         at = at.wrapping_add(1);

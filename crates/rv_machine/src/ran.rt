@@ -1,3 +1,4 @@
+//! What a run gave.
 use crate::end::End;
 
 /// What a run gave: the number of its records, and its ending where it has come to one.

@@ -1,3 +1,4 @@
+//! What a step shows.
 use crate::touch::Touch;
 
 /// What a step shows to an observer: where it was, which memory it touched and where it goes.

@@ -1,3 +1,4 @@
+//! What a step gave.
 use crate::end::End;
 use crate::record::Record;
 

@@ -1,3 +1,4 @@
+//! Steps and runs of small programs.
 ghost use Rattle.std.specs.Prelude.{◌+◌, ◌^◌, ◌≤◌, length};
 
 use super::*;

@@ -1,7 +1,0 @@
-use Rattle.std.proofs.Common.{◌≡◌, ◌-◌}
-use Rattle.rv_image.specs.Image.{readable_at}
-use Rattle.rv_machine.specs.Step.{all_allowed}
-use Rattle.rv_machine.proofs.machine.all_readable.Given as goal
-
-abbrev pub invariant-bytes : goal.invariant-bytes
-invariant-bytes l = all_allowed (readable_at l.image) l.at (l.bytes - l._i) ≡ all_allowed (readable_at l.image) l.address l.bytes
