@@ -15,13 +15,13 @@ use Rattle.ct_pairs.specs.Different.{is_among, with_new, different}
 -- a list that the test finds is there
 pub Contains-from_among : (kept : List (List ℕ)) (t : List ℕ) → is_among kept t ≡ true → Contains kept t
 Contains-from_among kept t h =
-    let (k, x, within, at, same) = Any-from_list_any (λ k. pointwise eqb k t) kept h in
-    (k, within, get_or_default kept k t x within ∙ at ∙ (bytes_decides x t).0 same)
+    let (k, x, within, at, same) = Any-from_list_any (pointwise eqb t) kept h in
+    (k, within, get_or_default kept k t x within ∙ at ∙ sym ((bytes_decides t x).0 same))
 
 -- a list that is there is found
 pub among-from_Contains : (kept : List (List ℕ)) (t : List ℕ) → Contains kept t → is_among kept t ≡ true
 among-from_Contains kept t h =
-    list_any-from_Any (λ k. pointwise eqb k t) kept (h.0, t, h.1, h.2, (bytes_decides t t).1 refl)
+    list_any-from_Any (pointwise eqb t) kept (h.0, t, h.1, h.2, (bytes_decides t t).1 refl)
 
 -- a list that is there changes nothing
 pub with_new-known : (kept : List (List ℕ)) (t : List ℕ) → Contains kept t → with_new kept t ≡ kept

@@ -1,5 +1,5 @@
 pub mod DifferentLemmas
-pub mod LeakLemmas
+pub mod ValueSplitLemmas
 pub mod MachineLemmas
 pub mod PathLemmas
 pub mod SiteLemmas

@@ -13,7 +13,7 @@ use Rattle.std.proofs.lemmas.Map.Keys.{IsStrictlyIncreasing-from_sorted}
 use Rattle.std.proofs.lemmas.Map.Lookups.{exact_unsigned}
 use Rattle.std.proofs.lemmas.Map.Views.{All-found, btree_map_get_iff}
 use Rattle.rv_machine.specs.declared.«record».Record.{Record}
-use Rattle.ct_pairs.specs.declared.leak.Leak.{Leak}
+use Rattle.ct_pairs.specs.declared.value_split.ValueSplit.{ValueSplit}
 use Rattle.ct_pairs.specs.declared.job.Job.{Job}
 use Rattle.ct_pairs.specs.declared.pair.Pair.{Pair}
 use Rattle.ct_pairs.specs.declared.found.Found.{Found}
@@ -31,7 +31,7 @@ use Rattle.ct_pairs.proofs.ValuesLemmas.{Contains-map, all_values-one, all_value
 use Rattle.ct_pairs.proofs.SplitLemmas.{FirstSplit-apart, FirstSplit-flip, FirstSplit-once}
 use Rattle.ct_pairs.proofs.TrailLemmas.{together_or_split, FirstSplit-one_pc}
 use Rattle.ct_pairs.proofs.StartLemmas.{starts_aligned}
-use Rattle.ct_pairs.specs.Leak.{IsWithin, Covers, value_pair, found_of}
+use Rattle.ct_pairs.specs.ValueSplit.{IsWithin, Covers, value_pair, found_of}
 use Rattle.ct_pairs.specs.Survey.{SplitAt, value_trail, AreSplits, CoversBelow}
 
 pub SplitAt-itself : (xs : List Record) (site step : ℕ) → SplitAt xs xs site step → ⊥
@@ -138,16 +138,16 @@ module _ (job : Job) (no_public : public_count job.inputs ≡ 0) (one_secret : s
         split = subst (λ (p : Pair). SplitAt (run_trail job p.shared p.left job.bound) (run_trail job p.shared p.right job.bound) site step) e whole;
       }
 
-  sites_of-map : (rows : List (ℕ × Leak)) → sites_of (map found_of rows) ≡ map (λ row. (row.0, row.1.step)) rows
+  sites_of-map : (rows : List (ℕ × ValueSplit)) → sites_of (map found_of rows) ≡ map (λ row. (row.0, row.1.step)) rows
   sites_of-map [] = refl
   sites_of-map (row ∷ rows) = ap (λ xs. (row.0, row.1.step) ∷ xs) (sites_of-map rows)
 
-  keys-map : (rows : List (ℕ × Leak)) → map (λ (r : ℕ × ℕ). r.0) (map (λ (row : ℕ × Leak). (row.0, row.1.step)) rows) ≡ map (λ (r : ℕ × Leak). r.0) rows
+  keys-map : (rows : List (ℕ × ValueSplit)) → map (λ (r : ℕ × ℕ). r.0) (map (λ (row : ℕ × ValueSplit). (row.0, row.1.step)) rows) ≡ map (λ (r : ℕ × ValueSplit). r.0) rows
   keys-map [] = refl
   keys-map (row ∷ rows) = ap (λ xs. row.0 ∷ xs) (keys-map rows)
 
-  module _ (table : BTreeMap ℕ Leak) (ordered : IsOrdered nat_cmp table) (splits : AreSplits SplitAt (value_trail job) 256 (get nat_cmp table)) (covers : CoversBelow SplitAt (value_trail job) 256 (get nat_cmp table)) where
-    row_splits : (row : ℕ × Leak) → get nat_cmp table row.0 ≡ Some row.1 → SplitsAt job (value_pair row.1.left row.1.right) row.0 row.1.step
+  module _ (table : BTreeMap ℕ ValueSplit) (ordered : IsOrdered nat_cmp table) (splits : AreSplits SplitAt (value_trail job) 256 (get nat_cmp table)) (covers : CoversBelow SplitAt (value_trail job) 256 (get nat_cmp table)) where
+    row_splits : (row : ℕ × ValueSplit) → get nat_cmp table row.0 ≡ Some row.1 → SplitsAt job (value_pair row.1.left row.1.right) row.0 row.1.step
     row_splits row at =
         let (apart, below, split) = splits row.0 row.1 at in
         SplitsAt-from_values row.1.left row.1.right row.0 row.1.step (omega (arith, apart, below)) below split
@@ -158,58 +158,58 @@ module _ (job : Job) (no_public : public_count job.inputs ≡ 0) (one_secret : s
         let v = values-from_SplitsAt pair site step h in
         (v, covers v.left v.right site step v.left_byte v.right_byte v.split)
 
-    same_row : (site : ℕ) (a b : Leak) → get nat_cmp table site ≡ Some a → get nat_cmp table site ≡ Some b → a ≡ b
+    same_row : (site : ℕ) (a b : ValueSplit) → get nat_cmp table site ≡ Some a → get nat_cmp table site ≡ Some b → a ≡ b
     same_row site a b p q = let e = sym p ∙ q in cc
 
-    none_earlier : (row : ℕ × Leak) → get nat_cmp table row.0 ≡ Some row.1 → (other : Pair) (step : ℕ) → SplitsAt job other row.0 step → row.1.step ≤ step
+    none_earlier : (row : ℕ × ValueSplit) → get nat_cmp table row.0 ≡ Some row.1 → (other : Pair) (step : ℕ) → SplitsAt job other row.0 step → row.1.step ≤ step
     none_earlier row at other step h =
         let (v, (leak, found, within)) = covered other row.0 step h in
-        subst (λ (l : Leak). l.step ≤ step) (same_row row.0 leak row.1 found at) within.step
+        subst (λ (l : ValueSplit). l.step ≤ step) (same_row row.0 leak row.1 found at) within.step
 
-    row_is_least : (row : ℕ × Leak) → get nat_cmp table row.0 ≡ Some row.1 → IsLeastStep job row.0 row.1.step
+    row_is_least : (row : ℕ × ValueSplit) → get nat_cmp table row.0 ≡ Some row.1 → IsLeastStep job row.0 row.1.step
     row_is_least row at = record {
       pair = value_pair row.1.left row.1.right;
       splits = row_splits row at;
       none_earlier = none_earlier row at;
     }
 
-    in_table : (site : ℕ) (leak : Leak) → get nat_cmp table site ≡ Some leak → Contains (sites_of (map found_of table.entries)) (site, leak.step)
+    in_table : (site : ℕ) (leak : ValueSplit) → get nat_cmp table site ≡ Some leak → Contains (sites_of (map found_of table.entries)) (site, leak.step)
     in_table site leak at =
-        rw (sites_of-map table.entries) (Contains-map (λ (row : ℕ × Leak). (row.0, row.1.step)) table.entries (site, leak) ((btree_map_get_iff nat_cmp_total exact_unsigned table ordered site leak).0 at))
+        rw (sites_of-map table.entries) (Contains-map (λ (row : ℕ × ValueSplit). (row.0, row.1.step)) table.entries (site, leak) ((btree_map_get_iff nat_cmp_total exact_unsigned table ordered site leak).0 at))
 
     has_site : (pair : Pair) (site step : ℕ) → SplitsAt job pair site step → HasSite (sites_of (map found_of table.entries)) site step
     has_site pair site step h =
         let (v, (leak, at, within)) = covered pair site step h in
         (leak.step, in_table site leak at, within.step)
 
-    each_found : All (λ (row : ℕ × Leak). get nat_cmp table row.0 ≡ Some row.1) table.entries
+    each_found : All (λ (row : ℕ × ValueSplit). get nat_cmp table row.0 ≡ Some row.1) table.entries
     each_found = All-found nat_cmp_total table ordered
 
     pub are_leak_sites : AreLeakSites job (sites_of (map found_of table.entries))
     are_leak_sites = record {
       ascending = rw (sites_of-map table.entries, keys-map table.entries) (IsStrictlyIncreasing-from_sorted _ ordered);
-      each = rw (sites_of-map table.entries) (All-map (λ (row : ℕ × ℕ). IsLeastStep job row.0 row.1) (λ (row : ℕ × Leak). (row.0, row.1.step)) table.entries (All-weaker (λ (row : ℕ × Leak). get nat_cmp table row.0 ≡ Some row.1) (λ (row : ℕ × Leak). IsLeastStep job row.0 row.1.step) row_is_least table.entries each_found));
+      each = rw (sites_of-map table.entries) (All-map (λ (row : ℕ × ℕ). IsLeastStep job row.0 row.1) (λ (row : ℕ × ValueSplit). (row.0, row.1.step)) table.entries (All-weaker (λ (row : ℕ × ValueSplit). get nat_cmp table row.0 ≡ Some row.1) (λ (row : ℕ × ValueSplit). IsLeastStep job row.0 row.1.step) row_is_least table.entries each_found));
       every = has_site;
     }
 
     pub are_least : All (λ found. IsLeastPair job found.site found.step found.pair) (map found_of table.entries)
     are_least =
-        All-map (λ (found : Found). IsLeastPair job found.site found.step found.pair) found_of table.entries (All-weaker (λ (row : ℕ × Leak). get nat_cmp table row.0 ≡ Some row.1) (λ (row : ℕ × Leak). IsLeastPair job row.0 row.1.step (value_pair row.1.left row.1.right)) row_least table.entries each_found)
+        All-map (λ (found : Found). IsLeastPair job found.site found.step found.pair) found_of table.entries (All-weaker (λ (row : ℕ × ValueSplit). get nat_cmp table row.0 ≡ Some row.1) (λ (row : ℕ × ValueSplit). IsLeastPair job row.0 row.1.step (value_pair row.1.left row.1.right)) row_least table.entries each_found)
       where
-        least : (row : ℕ × Leak) → get nat_cmp table row.0 ≡ Some row.1 → (other : Pair) → SplitsAt job other row.0 row.1.step → pair_order other (value_pair row.1.left row.1.right) ≢ Less
+        least : (row : ℕ × ValueSplit) → get nat_cmp table row.0 ≡ Some row.1 → (other : Pair) → SplitsAt job other row.0 row.1.step → pair_order other (value_pair row.1.left row.1.right) ≢ Less
         least row at other h =
             let (v, (leak, found, within)) = covered other row.0 row.1.step h in
             let same = same_row row.0 leak row.1 found at in
-            let first : IsWithin row.1 row.1.step v.left v.right = subst (λ (l : Leak). IsWithin l row.1.step v.left v.right) same within in
+            let first : IsWithin row.1 row.1.step v.left v.right = subst (λ (l : ValueSplit). IsWithin l row.1.step v.left v.right) same within in
             subst (λ (p : Pair). pair_order p (value_pair row.1.left row.1.right) ≢ Less) (sym v.pair_is) (not_before v.left row.1.left v.right row.1.right (first.left refl) (λ e. first.right refl e))
 
-        row_least : (row : ℕ × Leak) → get nat_cmp table row.0 ≡ Some row.1 → IsLeastPair job row.0 row.1.step (value_pair row.1.left row.1.right)
+        row_least : (row : ℕ × ValueSplit) → get nat_cmp table row.0 ≡ Some row.1 → IsLeastPair job row.0 row.1.step (value_pair row.1.left row.1.right)
         row_least row at = record { splits = row_splits row at; least = least row at }
 
     pub covers_pairs : CoversPairs job (map found_of table.entries)
     covers_pairs = record {
       every = λ pair h. elim (pair_splits job pair h) [ inl same ↦ inl same | inr (site, step, split) ↦ inr (site, step, split, has_site pair site step split) ];
-      each = All-map (λ (found : Found). SplitsAt job found.pair found.site found.step) found_of table.entries (All-weaker (λ (row : ℕ × Leak). get nat_cmp table row.0 ≡ Some row.1) (λ (row : ℕ × Leak). SplitsAt job (value_pair row.1.left row.1.right) row.0 row.1.step) row_splits table.entries each_found);
+      each = All-map (λ (found : Found). SplitsAt job found.pair found.site found.step) found_of table.entries (All-weaker (λ (row : ℕ × ValueSplit). get nat_cmp table row.0 ≡ Some row.1) (λ (row : ℕ × ValueSplit). SplitsAt job (value_pair row.1.left row.1.right) row.0 row.1.step) row_splits table.entries each_found);
     }
 
   -- the control paths of a job with one secret byte

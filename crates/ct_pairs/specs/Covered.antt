@@ -20,7 +20,11 @@ abbrev pub IsCovered : Job → List Found → Pair → Type 0
 IsCovered job table pair =
     Agrees job pair job.bound ⊎ ((site : ℕ) × (step : ℕ) × SplitsAt job pair site step × HasSite (sites_of table) site step)
 
+-- each found pair first splits at its site and step
+abbrev pub AreTrueSites : Job → List Found → Type 0
+AreTrueSites job sites = All (λ found. SplitsAt job found.pair found.site found.step) sites
+
 -- every pair of the job is covered, and each found pair first splits at its site and step
 pub record CoversPairs (job : Job) (table : List Found) : Type 0 where
   pub every : (pair : Pair) → IsPair job pair → IsCovered job table pair
-  pub each : All (λ found. SplitsAt job found.pair found.site found.step) table
+  pub each : AreTrueSites job table

@@ -5,7 +5,7 @@ use Rattle.std.specs.Cmp.Lexicographic.{pointwise}
 
 -- whether the list is among these
 abbrev pub is_among : List (List ℕ) → List ℕ → Bool
-is_among kept t = list_any (λ k. pointwise nat_eq k t) kept
+is_among kept t = list_any (pointwise nat_eq t) kept
 
 -- the list at the end, unless it is there
 abbrev pub with_new : List (List ℕ) → List ℕ → List (List ℕ)

@@ -2,7 +2,6 @@ pub mod ByteJob
 pub mod Covered
 pub mod Different
 pub mod Inputs
-pub mod Leak
 pub mod LeastPair
 pub mod Limits
 pub mod Pair
@@ -12,4 +11,5 @@ pub mod Sites
 pub mod Split
 pub mod Start
 pub mod Survey
+pub mod ValueSplit
 pub mod Values

@@ -5,8 +5,8 @@ use Rattle.ct_pairs.specs.declared.job.Job.{Job}
 use Rattle.ct_pairs.specs.declared.pair.Pair.{Pair}
 use Rattle.ct_pairs.specs.Pair.{IsPair, left_trail, right_trail}
 
--- two trails have equal records before this step, counted from 1, and there the records a and b, which differ
-pub record FirstSplit (left right : List Record) (step : ℕ) (a b : Record) : Type 0 where
+-- two lists of records, of whatever kind, have equal ones before this step, counted from 1, and there the records a and b, which differ
+pub record FirstSplit {R : Type 0} (left right : List R) (step : ℕ) (a b : R) : Type 0 where
   pub from_one : 1 ≤ step
   pub before : take (step - 1) left ≡ take (step - 1) right
   pub left_record : slice_get left (step - 1) ≡ Some a

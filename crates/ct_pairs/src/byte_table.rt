@@ -1,3 +1,4 @@
+//! What the check of all pairs found.
 use crate::found::Found;
 use ct_rows::Row;
 

@@ -1,3 +1,4 @@
+//! The check of all pairs of one secret byte.
 ghost use Rattle.std.specs.Prelude.{◌≡◌, IfOk, All};
 ghost use Rattle.ct_pairs.specs.Inputs.{public_count, secret_count};
 ghost use Rattle.ct_pairs.specs.Sites.{AreLeakSites};
@@ -11,6 +12,7 @@ use crate::noting::found_rows;
 use crate::runs::Runs;
 use crate::survey::{Survey, survey_value};
 use ct_rows::Row;
+use indexmap::IndexSet;
 use std::alloc::{AllocError, Global};
 use std::collections::BTreeMap;
 
@@ -36,7 +38,7 @@ pub fn byte_check(alloc: Global, job: &Job) -> Result<ByteTable, AllocError>
     let mut survey = Survey {
         representatives: Vec::new(alloc),
         leaks: BTreeMap::new(alloc),
-        paths: Vec::new(alloc),
+        paths: IndexSet::new(alloc),
     };
     for value in 0..256u32 {
         survey_value(alloc, job, &mut runs, &mut survey, value as u8)?;

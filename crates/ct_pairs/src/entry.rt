@@ -1,3 +1,4 @@
+//! Where a routine begins.
 use ct_rows::Text;
 
 /// Where a routine begins: an address, or the name of a symbol.

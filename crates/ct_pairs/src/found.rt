@@ -1,3 +1,4 @@
+//! A leak that was found, with the pair that shows it.
 use crate::pair::Pair;
 
 /// A leak: a pair of starts that first split at the instruction at `site`, in step `step` counted

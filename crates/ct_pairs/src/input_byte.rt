@@ -1,3 +1,4 @@
+//! A byte that differs from start to start.
 use crate::place::Place;
 
 /// A byte that differs from start to start. A public one is equal in both starts of a pair.

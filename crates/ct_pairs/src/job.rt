@@ -1,3 +1,4 @@
+//! What is checked.
 ghost use Rattle.ct_pairs.specs.Limits.{AreLimits};
 
 use crate::input_byte::InputByte;

@@ -1,3 +1,4 @@
+//! Laws of pairs and paths.
 ghost use Rattle.std.specs.Prelude.{◌≡◌, ℕ};
 ghost use Rattle.ct_pairs.specs.declared.job.Job.{Job as TheJob};
 ghost use Rattle.ct_pairs.specs.declared.pair.Pair.{Pair as ThePair};

@@ -2,7 +2,6 @@
 //! all pairs of one secret byte.
 #![tactic(auto)]
 
-mod byte_jobs;
 mod byte_table;
 mod checking;
 mod entry;
@@ -10,9 +9,10 @@ mod found;
 mod input_byte;
 mod job;
 mod laws;
-mod leak;
-mod listing;
+mod limits;
+mod nexts;
 mod noting;
+mod one_secret;
 mod pair;
 mod place;
 mod placing;
@@ -21,8 +21,8 @@ mod split;
 mod splitting;
 mod starting;
 mod survey;
+mod value_split;
 
-pub use byte_jobs::byte_job;
 pub use byte_table::ByteTable;
 pub use checking::byte_check;
 pub use entry::Entry;
@@ -30,6 +30,10 @@ pub use found::Found;
 pub use input_byte::InputByte;
 pub use job::Job;
 pub use laws::{path_count_law, split_law};
+pub use limits::{
+    MOST_BOUND, MOST_BUDGET, MOST_INPUTS, MOST_STOPS, MOST_TARGETS, USUAL_BUDGET, USUAL_TARGETS,
+};
+pub use one_secret::byte_job;
 pub use pair::Pair;
 pub use place::Place;
 pub use split::Split;

@@ -1,3 +1,4 @@
+//! Two starts that agree on public inputs.
 use ct_rows::Row;
 
 /// The input values of two starts: one list for the public bytes of both, and one list each for the

@@ -1,3 +1,4 @@
+//! Where an input byte stands.
 /// Where an input byte stands at the start.
 #[derive(Clone, Copy, Debug, PartialEq, Eq)]
 pub enum Place {

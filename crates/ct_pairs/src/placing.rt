@@ -1,3 +1,4 @@
+//! Values put in the places of the input bytes.
 ghost use Rattle.std.specs.Prelude.{◌≡◌, ◌<◌, length, slice_index, slice_set, replicate, IsTrue};
 ghost use Rattle.rv_image.specs.Image.{size_of};
 ghost use Rattle.ct_pairs.specs.Inputs.{public_count, secret_count, is_place};

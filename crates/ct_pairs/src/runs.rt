@@ -1,10 +1,11 @@
+//! The machines of a check, brought to one start after another.
 ghost use Rattle.std.specs.Prelude.{◌≡◌, ◌↔◌, IsNone, IfSome, IfOk};
 ghost use Rattle.ct_pairs.specs.Inputs.{public_count, secret_count};
 ghost use Rattle.ct_pairs.specs.Paths.{nexts};
 ghost use Rattle.ct_pairs.specs.Survey.{SplitAt, value_trail};
 
 use crate::job::Job;
-use crate::listing::list_nexts;
+use crate::nexts::list_nexts;
 use crate::placing::place_inputs;
 use crate::split::Split;
 use crate::splitting::first_split;

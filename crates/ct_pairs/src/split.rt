@@ -1,3 +1,4 @@
+//! The first step at which two runs differ.
 use rv_machine::Record;
 
 /// The first step, counted from 1, at which two runs show different records, with the two records.

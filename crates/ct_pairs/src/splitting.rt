@@ -1,3 +1,4 @@
+//! Two machines run until they differ.
 ghost use Rattle.std.specs.Prelude.{◌≡◌, ◌↔◌, IsTrue, IsNone, IfSome, None, length};
 ghost use Rattle.rv_image.specs.Image.{size_of};
 ghost use Rattle.ct_pairs.specs.Start.{bounded_trail};

@@ -1,3 +1,4 @@
+//! The starts of a job.
 ghost use Rattle.std.specs.Prelude.{◌≡◌, None, IfOk, length};
 ghost use Rattle.rv_image.specs.Image.{size_of};
 ghost use Rattle.ct_pairs.specs.Inputs.{public_count, secret_count};

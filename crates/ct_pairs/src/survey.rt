@@ -1,3 +1,4 @@
+//! What the values met so far have shown.
 ghost use Rattle.std.specs.Prelude.{◌≡◌, ◌+◌, ◌<◌, true, ℕ, OnOk, IfOk};
 ghost use Rattle.std.specs.Ordering.{nat_cmp};
 ghost use Rattle.std.specs.BTreeMap.{get};
@@ -6,10 +7,11 @@ ghost use Rattle.ct_pairs.specs.Runs.{AreRuns};
 ghost use Rattle.ct_pairs.specs.Survey.{SplitAt, value_trail, AreSplits, CoversBelow, Represent, IsSurveyed};
 
 use crate::job::Job;
-use crate::leak::Leak;
 use crate::noting::{note, note_path};
 use crate::runs::Runs;
+use crate::value_split::ValueSplit;
 use ct_rows::Row;
+use indexmap::IndexSet;
 use std::alloc::{AllocError, Global};
 use std::collections::BTreeMap;
 
@@ -18,8 +20,8 @@ use std::collections::BTreeMap;
 #[derive(Drop)]
 pub(crate) struct Survey {
     pub representatives: Vec<u8>,
-    pub leaks: BTreeMap<u32, Leak>,
-    pub paths: Vec<Row<u32>>,
+    pub leaks: BTreeMap<u32, ValueSplit>,
+    pub paths: IndexSet<Row<u32>>,
 }
 
 /// Takes up the next value.
@@ -33,10 +35,10 @@ pub(crate) fn survey_value(
     requires public { public_count job.now.inputs ≡ 0 }
     requires secret { secret_count job.now.inputs ≡ 1 }
     requires runs { AreRuns job.now runs.old }
-    requires surveyed { IsSurveyed job.now value survey.old.representatives.items survey.old.leaks survey.old.paths.items }
+    requires surveyed { IsSurveyed job.now value survey.old.representatives.items survey.old.leaks survey.old.paths.keys }
     ensures runs { AreRuns job.now runs.new }
     ensures surveyed { OnOk result (IsSurveyed job.now (value + 1)
-        survey.new.representatives.items survey.new.leaks survey.new.paths.items) }
+        survey.new.representatives.items survey.new.leaks survey.new.paths.keys) }
 {
     let Survey {
         representatives,
@@ -57,7 +59,7 @@ pub(crate) fn survey_value(
 fn meet(
     job: &Job,
     runs: &mut Runs,
-    leaks: &mut BTreeMap<u32, Leak>,
+    leaks: &mut BTreeMap<u32, ValueSplit>,
     representatives: &[u8],
     value: u8,
 ) -> Result<bool, AllocError>
@@ -77,7 +79,7 @@ fn meet(
         match runs.split_of(job, *left, value) {
             None => return Ok(true),
             Some(split) => {
-                let leak = Leak {
+                let leak = ValueSplit {
                     step: split.step,
                     left: *left,
                     right: value,

@@ -1,5 +1,5 @@
 use Rattle.std.proofs.Common.{◌≡◌, ◌++◌, map}
-use Rattle.ct_pairs.specs.Leak.{found_of}
+use Rattle.ct_pairs.specs.ValueSplit.{found_of}
 use Rattle.ct_pairs.proofs.noting.found_rows.Given as goal
 
 -- the rows so far and those that are left are all

@@ -1,8 +1,12 @@
-ghost use Rattle.std.specs.Prelude.{◌≤◌, ◌^◌, IfOk, length};
+//! The job of one secret byte.
+ghost use Rattle.std.specs.Prelude.{◌≤◌, IfOk, length};
+ghost use Rattle.elf_load.specs.Numbers.{most_memory};
+ghost use Rattle.ct_pairs.specs.Limits.{IsBound};
 ghost use Rattle.ct_pairs.specs.ByteJob.{IsByteJob};
 
 use crate::input_byte::InputByte;
 use crate::job::Job;
+use crate::limits::{USUAL_BUDGET, USUAL_TARGETS};
 use crate::place::Place;
 use ct_rows::Row;
 use rv_image::Image;
@@ -10,9 +14,8 @@ use std::alloc::{AllocError, Global};
 
 /// The job of one secret byte, the least byte of a0, with all other registers 0.
 pub fn byte_job(alloc: Global, image: Image, entry: u32, bound: u32) -> Result<Job, AllocError>
-    requires least { 1 ≤ bound }
-    requires most { bound ≤ 100000 }
-    requires size { length image ≤ 2 ^ 24 }
+    requires bound { IsBound bound }
+    requires size { length image ≤ most_memory }
     ensures { IfOk result (λ job. IsByteJob job image entry bound) }
 {
     let stops: Vec<u32> = vec![in alloc; 0]?;
@@ -29,7 +32,7 @@ pub fn byte_job(alloc: Global, image: Image, entry: u32, bound: u32) -> Result<J
         registers: Row::from_vec(registers),
         inputs: Row::from_vec(inputs),
         bound,
-        budget: 20_000,
-        targets: 16,
+        budget: USUAL_BUDGET,
+        targets: USUAL_TARGETS,
     })
 }

@@ -4,7 +4,7 @@ use Rattle.rv_machine.specs.Step.{step}
 use Rattle.ct_pairs.specs.Paths.{nexts}
 use Rattle.ct_pairs.proofs.TrailLemmas.{state_after-none, state_after-more, trail-none}
 use Rattle.ct_pairs.proofs.PathLemmas.{nexts-shown, nexts-quiet}
-use Rattle.ct_pairs.proofs.listing.list_nexts.Goals as goal
+use Rattle.ct_pairs.proofs.nexts.list_nexts.Goals as goal
 
 pub loop-at-init : goal.loop-at-init
 loop-at-init c = record {

@@ -1,17 +1,18 @@
+//! Where two values of the one secret byte first split.
 ghost use Rattle.std.specs.Prelude.{◌≡◌};
 
 /// Where two values of the one secret byte first split: the step, and the values.
 #[derive(Clone, Copy)]
-pub(crate) struct Leak {
+pub(crate) struct ValueSplit {
     pub step: u32,
     pub left: u8,
     pub right: u8,
 }
 
-impl Leak {
-    ghost use Rattle.ct_pairs.specs.Leak.{comes_before};
+impl ValueSplit {
+    ghost use Rattle.ct_pairs.specs.ValueSplit.{comes_before};
 
-    fn comes_before(self, other: Leak) -> bool
+    fn comes_before(self, other: ValueSplit) -> bool
         ensures { result ≡ comes_before self other }
     {
         self.step < other.step
@@ -21,12 +22,12 @@ impl Leak {
     }
 }
 
-impl Leak {
+impl ValueSplit {
     ghost use Rattle.std.specs.Prelude.{Option};
-    ghost use Rattle.ct_pairs.specs.Leak.{earlier};
+    ghost use Rattle.ct_pairs.specs.ValueSplit.{earlier};
 
     /// The one of two that is reported.
-    pub(crate) fn earlier(old: Option<Leak>, new: Leak) -> Leak
+    pub(crate) fn earlier(old: Option<ValueSplit>, new: ValueSplit) -> ValueSplit
         ensures { result ≡ earlier old new }
     {
         match old {

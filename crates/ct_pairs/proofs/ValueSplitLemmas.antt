@@ -4,27 +4,27 @@ use Rattle.std.proofs.Common.{◌≡◌, ◌⊎◌, ℕ, ◌+◌, ◌<◌, ◌�
 use Rattle.std.proofs.lemmas.Bool.{cases_eq, cases_lt}
 use Rattle.std.proofs.lemmas.Bool.Decides.{nat_tests}
 use Rattle.std.proofs.lemmas.List.{get_or_push, length_push, get_or_append_left}
-use Rattle.ct_pairs.specs.declared.leak.Leak.{Leak}
-use Rattle.ct_pairs.specs.Leak.{comes_before, earlier, IsWithin, Notes, Covers}
-use Rattle.ct_pairs.specs.Survey.{IsLeakBelow, AreSplits, CoversBelow, Represent, IsMet}
+use Rattle.ct_pairs.specs.declared.value_split.ValueSplit.{ValueSplit}
+use Rattle.ct_pairs.specs.ValueSplit.{comes_before, earlier, IsWithin, Notes, Covers}
+use Rattle.ct_pairs.specs.Survey.{IsSplitBelow, AreSplits, CoversBelow, Represent, IsMet}
 
 -- pairs in dictionary order
-pub IsWithin-later : (leak : Leak) (step a b c d : ℕ) → (a < c) ⊎ ((a ≡ c) × (b ≤ d)) → IsWithin leak step a b → IsWithin leak step c d
+pub IsWithin-later : (leak : ValueSplit) (step a b c d : ℕ) → (a < c) ⊎ ((a ≡ c) × (b ≤ d)) → IsWithin leak step a b → IsWithin leak step c d
 IsWithin-later leak step a b c d (inl below) h =
     record { step = h.step; left = λ e. omega (arith, h.left e); right = λ e same. absurd (omega (arith, h.left e)) }
 IsWithin-later leak step a b c d (inr (same, below)) h =
     record { step = h.step; left = λ e. omega (arith, h.left e); right = λ e f. omega (arith, h.right e (f ∙ sym same)) }
 
-IsWithin-itself : (leak : Leak) → IsWithin leak leak.step leak.left leak.right
+IsWithin-itself : (leak : ValueSplit) → IsWithin leak leak.step leak.left leak.right
 IsWithin-itself leak = record { step = omega arith; left = λ e. omega arith; right = λ e f. omega arith }
 
-before_is : (a b : Leak) → comes_before a b ≡ true → IsWithin a b.step b.left b.right
+before_is : (a b : ValueSplit) → comes_before a b ≡ true → IsWithin a b.step b.left b.right
 before_is a b h = record { step = grind (arith, nat_tests); left = λ e. grind (arith, nat_tests); right = λ e f. grind (arith, nat_tests) }
 
-not_before_is : (a b : Leak) → comes_before a b ≡ false → IsWithin b a.step a.left a.right
+not_before_is : (a b : ValueSplit) → comes_before a b ≡ false → IsWithin b a.step a.left a.right
 not_before_is a b h = record { step = grind (arith, nat_tests); left = λ e. grind (arith, nat_tests); right = λ e f. grind (arith, nat_tests) }
 
-IsWithin-chain : (a b : Leak) (step left right : ℕ) → IsWithin a b.step b.left b.right → IsWithin b step left right → IsWithin a step left right
+IsWithin-chain : (a b : ValueSplit) (step left right : ℕ) → IsWithin a b.step b.left b.right → IsWithin b step left right → IsWithin a step left right
 IsWithin-chain a b step left right h k = record {
   step = omega (arith, h.step, k.step);
   left = λ e. omega (arith, h.step, k.step, h.left, k.left);
@@ -32,58 +32,58 @@ IsWithin-chain a b step left right h k = record {
 }
 
 -- what is kept comes no later than the new split, and than the old one
-chosen_within : (old new : Leak) (b : Bool) → comes_before new old ≡ b → IsWithin (cond b new old) new.step new.left new.right
+chosen_within : (old new : ValueSplit) (b : Bool) → comes_before new old ≡ b → IsWithin (cond b new old) new.step new.left new.right
 chosen_within old new true h = IsWithin-itself new
 chosen_within old new false h = not_before_is new old h
 
-earlier_within : (o : Option Leak) (new : Leak) → IsWithin (earlier o new) new.step new.left new.right
+earlier_within : (o : Option ValueSplit) (new : ValueSplit) → IsWithin (earlier o new) new.step new.left new.right
 earlier_within None new = IsWithin-itself new
 earlier_within (Some old) new = chosen_within old new (comes_before new old) refl
 
-chosen_keeps : (old new : Leak) (b : Bool) → comes_before new old ≡ b → IsWithin (cond b new old) old.step old.left old.right
+chosen_keeps : (old new : ValueSplit) (b : Bool) → comes_before new old ≡ b → IsWithin (cond b new old) old.step old.left old.right
 chosen_keeps old new true h = before_is new old h
 chosen_keeps old new false h = IsWithin-itself old
 
-earlier_keeps : (o : Option Leak) (old new : Leak) (step left right : ℕ) → o ≡ Some old → IsWithin old step left right → IsWithin (earlier o new) step left right
+earlier_keeps : (o : Option ValueSplit) (old new : ValueSplit) (step left right : ℕ) → o ≡ Some old → IsWithin old step left right → IsWithin (earlier o new) step left right
 earlier_keeps None old new step left right e h = cc
 earlier_keeps (Some was) old new step left right e h =
     let same : was ≡ old = cc in
     IsWithin-chain _ old step left right (subst (λ w. IsWithin (earlier (Some was) new) w.step w.left w.right) same (chosen_keeps was new (comes_before new was) refl)) h
 
 -- what was covered is, and so is the new split
-pub Covers-Notes : (old new : ℕ → Option Leak) (site : ℕ) (leak : Leak) → Notes old new site leak → (q step left right : ℕ) → Covers old q step left right → Covers new q step left right
+pub Covers-Notes : (old new : ℕ → Option ValueSplit) (site : ℕ) (leak : ValueSplit) → Notes old new site leak → (q step left right : ℕ) → Covers old q step left right → Covers new q step left right
 Covers-Notes old new site leak n q step left right (was, at, within) =
     elim (cases_eq q site) [ inl same ↦ (earlier (old site) leak, ap new same ∙ n.here, earlier_keeps (old site) was leak step left right (ap old (sym same) ∙ at) within) | inr other ↦ (was, n.others q other ∙ at, within) ]
 
-pub Covers-new : (old new : ℕ → Option Leak) (site : ℕ) (leak : Leak) → Notes old new site leak → Covers new site leak.step leak.left leak.right
+pub Covers-new : (old new : ℕ → Option ValueSplit) (site : ℕ) (leak : ValueSplit) → Notes old new site leak → Covers new site leak.step leak.left leak.right
 Covers-new old new site leak n = (earlier (old site) leak, n.here, earlier_within (old site) leak)
 
 -- what is kept is one of the two
-earlier_is : (o : Option Leak) (new : Leak) → (earlier o new ≡ new) ⊎ (o ≡ Some (earlier o new))
+earlier_is : (o : Option ValueSplit) (new : ValueSplit) → (earlier o new ≡ new) ⊎ (o ≡ Some (earlier o new))
 earlier_is None new = inl refl
 earlier_is (Some old) new =
     elim (comes_before new old) as (λ b. (cond b new old ≡ new) ⊎ (Some old ≡ Some (cond b new old))) [ true ↦ inl refl | false ↦ inr refl ]
 
 module _ {X : Type 0} (S : X → X → ℕ → ℕ → Type 0) (list : ℕ → X) where
-  AreSplits-Notes : (n site : ℕ) (leak : Leak) (old new : ℕ → Option Leak) → AreSplits S list n old → IsLeakBelow S list n site leak → Notes old new site leak → AreSplits S list n new
+  AreSplits-Notes : (n site : ℕ) (leak : ValueSplit) (old new : ℕ → Option ValueSplit) → AreSplits S list n old → IsSplitBelow S list n site leak → Notes old new site leak → AreSplits S list n new
   AreSplits-Notes n site leak old new h is notes q row at =
-      elim (cases_eq q site) [ inl same ↦ subst (λ x. IsLeakBelow S list n x row) (sym same) (kept (ap new (sym same) ∙ at)) | inr other ↦ h q row (sym (notes.others q other) ∙ at) ]
+      elim (cases_eq q site) [ inl same ↦ subst (λ x. IsSplitBelow S list n x row) (sym same) (kept (ap new (sym same) ∙ at)) | inr other ↦ h q row (sym (notes.others q other) ∙ at) ]
     where
-      kept : new site ≡ Some row → IsLeakBelow S list n site row
-      kept e = elim (earlier_is (old site) leak) [ inl new_one ↦ subst (λ x. IsLeakBelow S list n site x) (which new_one e) is | inr old_one ↦ h site row (old_one ∙ sym notes.here ∙ e) ]
+      kept : new site ≡ Some row → IsSplitBelow S list n site row
+      kept e = elim (earlier_is (old site) leak) [ inl new_one ↦ subst (λ x. IsSplitBelow S list n site x) (which new_one e) is | inr old_one ↦ h site row (old_one ∙ sym notes.here ∙ e) ]
         where
           which : earlier (old site) leak ≡ leak → new site ≡ Some row → leak ≡ row
           which a b = let c = notes.here in cc
 
   -- nothing is met yet
-  pub IsMet-none : (values : List ℕ) (n : ℕ) (table : ℕ → Option Leak) → AreSplits S list n table → CoversBelow S list n table → IsMet S list values 0 n table
+  pub IsMet-none : (values : List ℕ) (n : ℕ) (table : ℕ → Option ValueSplit) → AreSplits S list n table → CoversBelow S list n table → IsMet S list values 0 n table
   IsMet-none values n table h k = record { splits = AreSplits-later n table h; before = k; met = λ j below. absurd (omega (arith, below)) }
     where
-      AreSplits-later : (n : ℕ) (table : ℕ → Option Leak) → AreSplits S list n table → AreSplits S list (n + 1) table
+      AreSplits-later : (n : ℕ) (table : ℕ → Option ValueSplit) → AreSplits S list n table → AreSplits S list (n + 1) table
       AreSplits-later n table h site leak at = let (apart, below, split) = h site leak at in (apart, omega (arith, below), split)
 
   -- a representative that splits from n, noted
-  pub IsMet-more : (values : List ℕ) (i n site : ℕ) (leak : Leak) (old new : ℕ → Option Leak) → IsMet S list values i n old → leak.left ≡ get_or values i 0 → leak.right ≡ n → leak.left < n → S (list leak.left) (list n) site leak.step → ((q step : ℕ) → S (list leak.left) (list n) q step → (q ≡ site) × (step ≡ leak.step)) → Notes old new site leak → IsMet S list values (i + 1) n new
+  pub IsMet-more : (values : List ℕ) (i n site : ℕ) (leak : ValueSplit) (old new : ℕ → Option ValueSplit) → IsMet S list values i n old → leak.left ≡ get_or values i 0 → leak.right ≡ n → leak.left < n → S (list leak.left) (list n) site leak.step → ((q step : ℕ) → S (list leak.left) (list n) q step → (q ≡ site) × (step ≡ leak.step)) → Notes old new site leak → IsMet S list values (i + 1) n new
   IsMet-more values i n site leak old new h is right below split only notes = record {
     splits = AreSplits-Notes (n + 1) site leak old new h.splits (omega (arith, below, right), omega (arith, right), subst (λ r. S (list leak.left) (list r) site leak.step) (sym right) split) notes;
     before = λ l r q step under over s. Covers-Notes old new site leak notes q step l r (h.before l r q step under over s);
@@ -98,7 +98,7 @@ module _ {X : Type 0} (S : X → X → ℕ → ℕ → Type 0) (list : ℕ → X
 
   module _ (itself : (x : X) (site step : ℕ) → S x x site step → ⊥) (flip : (x y : X) (site step : ℕ) → S x y site step → S y x site step) where
     -- n is covered with every value below it: so all values up to n are
-    with_last : (n : ℕ) (table : ℕ → Option Leak) → CoversBelow S list n table → ((l site step : ℕ) → l < n → S (list l) (list n) site step → Covers table site step l n) → CoversBelow S list (n + 1) table
+    with_last : (n : ℕ) (table : ℕ → Option ValueSplit) → CoversBelow S list n table → ((l site step : ℕ) → l < n → S (list l) (list n) site step → Covers table site step l n) → CoversBelow S list (n + 1) table
     with_last n table h last l r site step p q s =
         elim (cases_lt l n) [ inl below ↦ elim (cases_lt r n) [ inl under ↦ h l r site step below under s | inr above ↦ right_is_last below (omega (arith, q, above)) ] | inr above ↦ elim (cases_lt r n) [ inl under ↦ left_is_last (omega (arith, p, above)) under | inr over ↦ both_last (omega (arith, p, above)) (omega (arith, q, over)) ] ]
       where
@@ -114,7 +114,7 @@ module _ {X : Type 0} (S : X → X → ℕ → ℕ → Type 0) (list : ℕ → X
         both_last e f = absurd (itself (list n) site step (subst (λ v. S (list v) (list n) site step) e (subst (λ v. S (list l) (list v) site step) f s)))
 
     -- every representative was met
-    pub CoversBelow-met : (values : List ℕ) (n : ℕ) (table : ℕ → Option Leak) → Represent S list values n → IsMet S list values (length values) n table → CoversBelow S list (n + 1) table
+    pub CoversBelow-met : (values : List ℕ) (n : ℕ) (table : ℕ → Option ValueSplit) → Represent S list values n → IsMet S list values (length values) n table → CoversBelow S list (n + 1) table
     CoversBelow-met values n table reps h = with_last n table h.before last
       where
         last : (l site step : ℕ) → l < n → S (list l) (list n) site step → Covers table site step l n
@@ -127,7 +127,7 @@ module _ {X : Type 0} (S : X → X → ℕ → ℕ → Type 0) (list : ℕ → X
             weaker a l under = elim (cases_lt a l) [ inl below ↦ inl below | inr above ↦ inr (omega (arith, under, above), omega arith) ]
 
     -- n has the trail of a smaller value
-    pub CoversBelow-same : (n v : ℕ) (table : ℕ → Option Leak) → CoversBelow S list n table → v < n → list v ≡ list n → CoversBelow S list (n + 1) table
+    pub CoversBelow-same : (n v : ℕ) (table : ℕ → Option ValueSplit) → CoversBelow S list n table → v < n → list v ≡ list n → CoversBelow S list (n + 1) table
     CoversBelow-same n v table h below same = with_last n table h last
       where
         last : (l site step : ℕ) → l < n → S (list l) (list n) site step → Covers table site step l n

@@ -1,7 +1,7 @@
 use Rattle.std.proofs.Common.{◌≡◌, length}
 use Rattle.rv_machine.specs.Trail.{state_after, trail}
 use Rattle.ct_pairs.specs.Paths.{nexts}
-use Rattle.ct_pairs.proofs.listing.list_nexts.Given as goal
+use Rattle.ct_pairs.proofs.nexts.list_nexts.Given as goal
 
 -- the nexts of the steps so far
 abbrev pub invariant-loop-at : goal.invariant-loop-at

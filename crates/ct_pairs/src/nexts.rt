@@ -1,3 +1,4 @@
+//! Where a run goes.
 ghost use Rattle.std.specs.Prelude.{◌≡◌, ◌++◌, OnOk, IfOk, length};
 ghost use Rattle.std.specs.Option.{option_to_list};
 ghost use Rattle.rv_image.specs.Image.{size_of};
