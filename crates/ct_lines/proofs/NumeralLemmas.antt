@@ -1,12 +1,13 @@
 -- Words of digits: their tests, and how large their number is.
-use Rattle.std.proofs.Common.{◌≡◌, ℕ, ◌+◌, ◌*◌, ◌^◌, ◌<◌, ◌≤◌, true, List, [], ◌∷◌, length, take, get_or, arith, refl}
-use Rattle.std.proofs.Math.Nat.{mul-le-mul_left, pow-le-pow_left, pow-le-pow_right}
+use Rattle.std.proofs.Common.{◌≡◌, ◌∙◌, ◌==◌, ℕ, ◌^◌, ◌<◌, ◌≤◌, Bool, true, false, List, [], ◌∷◌, length, if◌then◌else◌, None, Some, IfSome, Result, Ok, Err, arith, refl, sym, ap, subst}
+use Rattle.std.proofs.Math.Nat.{pow-le-pow_left, pow-le-pow_right}
 use Rattle.std.proofs.lemmas.Grind.{common_steps}
-use Rattle.std.proofs.lemmas.Int.Digits.{digits_value-lt, digits_value_more}
-use Rattle.std.proofs.lemmas.List.Folds.{list_all_more}
-use Rattle.std.specs.Char.{digit_value, is_digit}
+use Rattle.std.proofs.lemmas.Int.Digits.{digits_value-lt}
+use Rattle.std.specs.Char.{is_digit}
 use Rattle.std.specs.List.{list_all}
-use Rattle.std.specs.Str.Parse.{AllDigits, digits_value}
+use Rattle.std.specs.Result.{result_ok}
+use Rattle.std.specs.Str.Parse.{AllDigits, digits_value, IsNumeral, without_leading_plus, ParsesUnsigned}
+use Rattle.ct_lines.specs.Words.{is_numeral, numeral_of}
 
 -- the test of each byte says that all are digits
 pub AllDigits-from_test : (radix : ℕ) (word : List ℕ) → list_all (λ c. is_digit c radix) word ≡ true → AllDigits radix word
@@ -21,27 +22,51 @@ short_value radix word digits small short =
     let ten : 16 ^ length word ≤ 16 ^ 10 = pow-le-pow_right (omega arith) short in
     omega (arith, below, wide, ten)
 
--- one more digit after those of the first `i` bytes fits 64 bits
-pub pushed_fits : (radix : ℕ) (word : List ℕ) (i value factor digit : ℕ) → list_all (λ c. is_digit c radix) (take i word) ≡ true → value ≡ digits_value radix (take i word) → radix ≤ 16 → length word ≤ 10 → factor ≡ radix → digit < 16 → value * factor + digit < 2 ^ 64
-pushed_fits radix word i value factor digit digits is small short same below =
-    let low = short_value radix (take i word) digits small (grind (arith, common_steps)) in
-    let narrow : factor ≤ 16 = omega arith in
-    let product = mul-le-mul_left value narrow in
-    omega (arith, product, low)
+-- what the test of a numeral says
+pub record Tested (radix most : ℕ) (word : List ℕ) : Type 0 where
+  pub some : 0 < length word
+  pub short : length word ≤ most
+  pub digits : list_all (λ c. is_digit c radix) word ≡ true
 
--- the first `i + 1` bytes are digits
-pub digits_more : (radix : ℕ) (word : List ℕ) (i : ℕ) → i < length word → list_all (λ c. is_digit c radix) (take i word) ≡ true → digit_value (get_or word i 0) < radix → list_all (λ c. is_digit c radix) (take (i + 1) word) ≡ true
-digits_more radix word i within digits one =
-    let more = list_all_more (λ c. is_digit c radix) word i 0 within in grind (arith, more)
+tested : (radix most : ℕ) (word : List ℕ) → is_numeral radix most word ≡ true → Tested radix most word
+tested radix most word is = record { some = grind (arith, common_steps); short = grind (arith, common_steps); digits = grind (arith, common_steps) }
 
--- and they write this number
-pub value_more : (radix : ℕ) (word : List ℕ) (i value factor digit : ℕ) → i < length word → value ≡ digits_value radix (take i word) → factor ≡ radix → digit ≡ digit_value (get_or word i 0) → value * factor + digit ≡ digits_value radix (take (i + 1) word)
-value_more radix word i value factor digit within is same one =
-    let more = digits_value_more radix word i within in rw (more, is, same, one) refl
+-- a numeral writes a number below that power of the radix
+pub numeral_below : (radix most : ℕ) (word : List ℕ) → 0 < radix → IfSome (numeral_of radix most word) (λ value. value < radix ^ most)
+numeral_below radix most word positive = by_test (is_numeral radix most word) refl where
+  by_test : (is : Bool) → is_numeral radix most word ≡ is → IfSome (if is then Some (digits_value radix word) else None) (λ value. value < radix ^ most)
+  by_test false is = tt
+  by_test true is =
+      let test = tested radix most word is in
+      let below = digits_value-lt radix word (AllDigits-from_test radix word test.digits) in
+      let wide = pow-le-pow_right positive test.short in
+      omega (arith, below, wide)
 
--- digits of a radix, `most` of them or fewer, write a number below that power of the radix
-pub value_below : (radix most : ℕ) (word : List ℕ) → list_all (λ c. is_digit c radix) word ≡ true → 0 < radix → length word ≤ most → digits_value radix word < radix ^ most
-value_below radix most word digits positive short =
-    let below = digits_value-lt radix word (AllDigits-from_test radix word digits) in
-    let wide = pow-le-pow_right positive short in
-    omega (arith, below, wide)
+-- a plus is no digit
+plus_is_none : (radix c : ℕ) → radix ≤ 16 → is_digit c radix ≡ true → (c == 43) ≡ false
+plus_is_none radix c small digit = by_test (c == 43) refl where
+  by_test : (plus : Bool) → (c == 43) ≡ plus → (c == 43) ≡ false
+  by_test false is = is
+  by_test true is =
+      let same : c ≡ 43 = grind (arith, common_steps) in
+      let other : is_digit 43 radix ≡ true = subst (λ d. is_digit d radix ≡ true) same digit in
+      absurd (grind (arith, common_steps))
+
+-- so a word of digits has none in front
+no_plus : (radix : ℕ) (word : List ℕ) → list_all (λ c. is_digit c radix) word ≡ true → radix ≤ 16 → without_leading_plus word ≡ word
+no_plus radix [] digits small = refl
+no_plus radix (c ∷ cs) digits small =
+    let digit : is_digit c radix ≡ true = grind (arith, common_steps) in
+    rw (plus_is_none radix c small digit) refl
+
+-- what the parser reads of a numeral
+pub numeral_parsed : {E : Type 0} (radix most : ℕ) (word : List ℕ) (result : Result ℕ E) → is_numeral radix most word ≡ true → radix ≤ 16 → most ≤ 10 → ParsesUnsigned 64 radix word result → result_ok result ≡ numeral_of radix most word
+numeral_parsed radix most word (Ok value) is small narrow parses =
+    let test = tested radix most word is in
+    rw is (ap Some (parses.1 ∙ ap (λ w. digits_value radix w) (no_plus radix word test.digits small)))
+numeral_parsed radix most word (Err error) is small narrow parses =
+    let test = tested radix most word is in
+    let below = short_value radix word test.digits small (omega (arith, test.short)) in
+    let fits : digits_value radix word < 2 ^ 64 = omega (arith, below) in
+    let all = AllDigits-from_test radix word test.digits in
+    absurd (parses (subst (λ w. IsNumeral radix w × (digits_value radix w < 2 ^ 64)) (sym (no_plus radix word test.digits small)) ((test.some, all), fits)))

@@ -3,6 +3,9 @@ use Rattle.std.specs.Prelude.{ℕ, Bool, false, ◌||◌, if◌then◌else◌, L
 use Rattle.std.specs.List.{slice_get}
 use Rattle.std.specs.Option.{option_map, option_zip, unwrap_or}
 use Rattle.std.specs.Str.{bytes_eq}
+use Rattle.ct_pairs.specs.declared.limits.TheConstants.{USUAL_BUDGET, USUAL_TARGETS}
+use Rattle.ct_pairs.specs.Limits.{most_bound, most_budget, most_targets}
+use Rattle.ct_lines.specs.declared.command.TheConstants.{MOST_WORKERS, USUAL_WORKERS}
 use Rattle.ct_lines.specs.declared.command.Command.{Command}
 use Rattle.ct_lines.specs.declared.command.Command.TheVariants.{Check}
 use Rattle.ct_lines.specs.Words.{number_of, name_of}
@@ -42,12 +45,12 @@ setting_of option low high words = setting_from low high (words_after option wor
 -- a check, where nothing is refused; an option that stands nowhere has its default, and without a bound the policy's holds
 abbrev pub check_from : Option (Option ℕ) → Option (Option ℕ) → Option (Option ℕ) → Option (Option ℕ) → Option (List ℕ × List ℕ) → Option Command
 check_from (Some bound) (Some workers) (Some budget) (Some targets) (Some names) =
-    Some (Check names.0 names.1 bound (unwrap_or workers 1) (unwrap_or budget 20_000) (unwrap_or targets 16))
+    Some (Check names.0 names.1 bound (unwrap_or workers USUAL_WORKERS) (unwrap_or budget USUAL_BUDGET) (unwrap_or targets USUAL_TARGETS))
 check_from _ _ _ _ _ = None
 
 -- the words after `check`: BINARY and POLICY, and the options
 abbrev pub check_of : List (List ℕ) → Option Command
 check_of words =
-    check_from (setting_of (codes "--bound") 1 100_000 words) (setting_of (codes "--workers") 1 16 words)
-    (setting_of (codes "--budget") 0 1_000_000 words) (setting_of (codes "--targets") 1 256 words)
+    check_from (setting_of (codes "--bound") 1 most_bound words) (setting_of (codes "--workers") 1 MOST_WORKERS words)
+    (setting_of (codes "--budget") 0 most_budget words) (setting_of (codes "--targets") 1 most_targets words)
     (two_names (names_among false words))

@@ -3,8 +3,10 @@ use Rattle.std.specs.Prelude.{ℕ, ◌-◌, ◌^◌, ◌≤◌, if◌then◌else
 use Rattle.std.specs.Option.{option_map}
 use Rattle.std.specs.Str.{bytes_eq}
 use Rattle.ct_pairs.specs.declared.entry.Entry.{Entry}
+use Rattle.ct_pairs.specs.Limits.{most_bound, most_budget, most_targets, IsBound}
 use Rattle.ct_lines.specs.declared.command.Command.{Command}
 use Rattle.ct_lines.specs.declared.command.Command.TheVariants.{Byte, Check, Replay, Trace, List as Listing, Gen}
+use Rattle.ct_lines.specs.declared.command.TheConstants.{MOST_WORKERS, MOST_BLOCKS}
 use Rattle.ct_lines.specs.declared.run.Run.{Run}
 use Rattle.ct_lines.specs.Words.{IsWithin, number_of, entry_of, name_of}
 use Rattle.ct_lines.specs.CheckWords.{check_of}
@@ -14,9 +16,9 @@ abbrev pub run_from : Option (List ℕ) → Option ℕ → Option Entry → Opti
 run_from (Some binary) (Some bound) (Some entry) = Some (record { binary = binary; entry = entry; bound = bound })
 run_from _ _ _ = None
 
--- the words after `byte` or `trace`: a name word, an entry word and a number word from 1 to 100,000
+-- the words after `byte` or `trace`: a name word, an entry word and a number word that is a bound
 abbrev pub run_of : List (List ℕ) → Option Run
-run_of (binary ∷ entry ∷ bound ∷ []) = run_from (name_of binary) (number_of 1 100_000 bound) (entry_of entry)
+run_of (binary ∷ entry ∷ bound ∷ []) = run_from (name_of binary) (number_of 1 most_bound bound) (entry_of entry)
 run_of _ = None
 
 -- the words after `byte`
@@ -47,9 +49,9 @@ abbrev pub gen_from : Option ℕ → Option ℕ → Option Command
 gen_from (Some number) (Some size) = Some (Gen number size)
 gen_from _ _ = None
 
--- the words after `gen`: a number word below 2^32, and one from 1 to 20,000
+-- the words after `gen`: a number word below 2^32, and one from 1 to the most blocks
 abbrev pub gen_of : List (List ℕ) → Option Command
-gen_of (number ∷ size ∷ []) = gen_from (number_of 0 (2 ^ 32 - 1) number) (number_of 1 20_000 size)
+gen_of (number ∷ size ∷ []) = gen_from (number_of 0 (2 ^ 32 - 1) number) (number_of 1 MOST_BLOCKS size)
 gen_of _ = None
 
 -- the words after the program's name: the first is the command
@@ -75,10 +77,9 @@ files_of (Gen number size) = []
 
 -- the numbers of a command are within their limits
 abbrev pub AreWithinLimits : Command → Type 0
-AreWithinLimits (Byte binary entry bound) = IsWithin 1 100_000 bound
+AreWithinLimits (Byte binary entry bound) = IsBound bound
 AreWithinLimits (Check binary policy bound workers budget targets) =
-    IfSome bound (IsWithin 1 100_000) × IsWithin 1 16 workers × (budget ≤ 1_000_000) × IsWithin 1 256 targets
-AreWithinLimits (Replay binary policy pair) = Unit {0}
-AreWithinLimits (Trace binary entry bound) = IsWithin 1 100_000 bound
-AreWithinLimits (Listing binary) = Unit {0}
-AreWithinLimits (Gen number size) = IsWithin 1 20_000 size
+    IfSome bound IsBound × IsWithin 1 MOST_WORKERS workers × (budget ≤ most_budget) × IsWithin 1 most_targets targets
+AreWithinLimits (Trace binary entry bound) = IsBound bound
+AreWithinLimits (Gen number size) = IsWithin 1 MOST_BLOCKS size
+AreWithinLimits _ = Unit {0}

@@ -1,3 +1,5 @@
+//! The words of `check`: two names, and options anywhere among them.
+
 ghost use Rattle.std.specs.Prelude.{◌≡◌, ◌↔◌, Bool, false, None, Some, map, slice_get, IfSome, IfOk};
 ghost use Rattle.std.specs.Option.{option_copied};
 ghost use Rattle.std.specs.String.{string_bytes};
@@ -5,9 +7,10 @@ ghost use Rattle.ct_lines.specs.CheckWords.{is_option, names_among, two_names, s
 ghost use Rattle.ct_lines.specs.Commands.{AreWithinLimits};
 ghost use Rattle.ct_lines.specs.Words.{IsWithin};
 
-use crate::command::Command;
+use crate::command::{Command, MOST_WORKERS, USUAL_WORKERS};
 use crate::word::{kept, read_name, read_number};
 use crate::words_refusal::WordsRefusal;
+use ct_pairs::{MOST_BOUND, MOST_BUDGET, MOST_TARGETS, USUAL_BUDGET, USUAL_TARGETS};
 use ct_rows::Text;
 use std::alloc::Global;
 
@@ -81,17 +84,19 @@ pub fn read_check(alloc: Global, words: &[String]) -> Result<Command, WordsRefus
     ensures refused { (result ≡ Err WordsRefusal.Refused) ↔ (check_of (map string_bytes words.now) ≡ None) }
     ensures limits { IfOk result AreWithinLimits }
 {
-    let bound = read_setting(words, "--bound", 1, 100_000).ok_or(WordsRefusal::Refused)?;
-    let workers = read_setting(words, "--workers", 1, 16).ok_or(WordsRefusal::Refused)?;
-    let budget = read_setting(words, "--budget", 0, 1_000_000).ok_or(WordsRefusal::Refused)?;
-    let targets = read_setting(words, "--targets", 1, 256).ok_or(WordsRefusal::Refused)?;
+    let bound = read_setting(words, "--bound", 1, MOST_BOUND).ok_or(WordsRefusal::Refused)?;
+    let workers = read_setting(words, "--workers", 1, MOST_WORKERS).ok_or(WordsRefusal::Refused)?;
+    let budget = read_setting(words, "--budget", 0, MOST_BUDGET as u32).ok_or(
+        WordsRefusal::Refused,
+    )?;
+    let targets = read_setting(words, "--targets", 1, MOST_TARGETS).ok_or(WordsRefusal::Refused)?;
     let (binary, policy) = read_names(alloc, words)?;
     Ok(Command::Check {
         binary,
         policy,
         bound,
-        workers: workers.unwrap_or(1),
-        budget: u64::from(budget.unwrap_or(20_000)),
-        targets: targets.unwrap_or(16),
+        workers: workers.unwrap_or(USUAL_WORKERS),
+        budget: budget.map_or(USUAL_BUDGET, u64::from),
+        targets: targets.unwrap_or(USUAL_TARGETS),
     })
 }

@@ -1,5 +1,16 @@
+//! What the program is asked to do.
+
 use ct_pairs::Entry;
 use ct_rows::Text;
+
+/// The most workers that share the control paths.
+pub const MOST_WORKERS: u32 = 16;
+
+/// How many workers there are where none are asked for.
+pub const USUAL_WORKERS: u32 = 1;
+
+/// The most blocks of code of a generated routine.
+pub const MOST_BLOCKS: u32 = 20_000;
 
 /// What the program is asked to do.
 #[derive(Debug, Drop, PartialEq, Eq, Hash)]

@@ -9,7 +9,7 @@ mod word;
 mod words;
 mod words_refusal;
 
-pub use command::Command;
+pub use command::{Command, MOST_BLOCKS, MOST_WORKERS, USUAL_WORKERS};
 pub use usage::usage_text;
 pub use words::read_words;
 pub use words_refusal::WordsRefusal;

@@ -1,3 +1,5 @@
+//! A routine and how far to run it.
+
 use ct_pairs::Entry;
 use ct_rows::Text;
 

@@ -1,3 +1,5 @@
+//! How the program is called.
+
 use clap::{Arg, Command};
 use std::alloc::{AllocError, Global};
 

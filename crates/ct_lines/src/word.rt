@@ -1,29 +1,47 @@
+//! One word: a number, an address, a name or an entry.
+
 ghost use Rattle.std.specs.Prelude.{◌≡◌, ◌↔◌, ◌<◌, ◌≤◌, ◌^◌, None, Some, IfSome, IfOk};
+ghost use Rattle.std.specs.Char.{is_digit};
+ghost use Rattle.std.specs.List.{list_all};
 ghost use Rattle.std.specs.Option.{option_copied};
-ghost use Rattle.ct_lines.specs.Words.{IsWithin, numeral_of, number_of, hexadecimal_of, address_of, entry_name_of, entry_of, name_of};
+ghost use Rattle.ct_lines.specs.Words.{IsWithin, is_numeral, numeral_of, number_of, hexadecimal_of, address_of, entry_name_of, entry_of, name_of};
 
 use crate::words_refusal::WordsRefusal;
 use ct_pairs::Entry;
 use ct_rows::Text;
 use std::alloc::{AllocError, Global};
 
+/// Whether each byte is a digit of the radix.
+fn are_digits(bytes: &[u8], radix: u32) -> bool
+    requires lower_radix { 2 ≤ radix }
+    requires upper_radix { radix ≤ 16 }
+    ensures { result ≡ list_all (λ c. is_digit c radix) bytes.now }
+{
+    bytes.iter().all(|byte| char::from(*byte).is_digit(radix))
+}
+
+/// Whether the word is at least one digit of the radix, at most `most` of them, and nothing else.
+fn is_numeral(word: &str, radix: u32, most: usize) -> bool
+    requires lower_radix { 2 ≤ radix }
+    requires upper_radix { radix ≤ 16 }
+    ensures { result ≡ is_numeral radix most word.now }
+{
+    !word.is_empty() && word.len() <= most && are_digits(word.as_bytes(), radix)
+}
+
 /// The number that at most `most` digits of the radix write.
-fn read_numeral(word: &[u8], radix: u32, most: usize) -> Option<u64>
+fn read_numeral(word: &str, radix: u32, most: usize) -> Option<u64>
     requires lower_radix { 2 ≤ radix }
     requires upper_radix { radix ≤ 16 }
     requires short { most ≤ 10 }
     ensures value { result ≡ numeral_of radix most word.now }
     ensures below { IfSome result (λ value. value < radix ^ most) }
 {
-    if word.is_empty() || word.len() > most {
+    // The parser takes a leading plus, which is no digit.
+    if !is_numeral(word, radix, most) {
         return None;
     }
-    let mut value: u64 = 0;
-    for byte in word {
-        let digit = char::from(*byte).to_digit(radix)?;
-        value = value * u64::from(radix) + u64::from(digit);
-    }
-    Some(value)
+    u64::from_str_radix(word, radix).ok()
 }
 
 /// The number of a number word within a range.
@@ -31,7 +49,7 @@ pub fn read_number(word: &str, low: u32, high: u32) -> Option<u32>
     ensures value { result ≡ number_of low high word.now }
     ensures within { IfSome result (IsWithin low high) }
 {
-    let value = read_numeral(word.as_bytes(), 10, 10)?;
+    let value = read_numeral(word, 10, 10)?;
     if value < u64::from(low) || u64::from(high) < value {
         return None;
     }
@@ -42,7 +60,7 @@ pub fn read_number(word: &str, low: u32, high: u32) -> Option<u32>
 fn read_hexadecimal(word: &str) -> Option<u32>
     ensures { result ≡ hexadecimal_of word.now }
 {
-    let digits = word.as_bytes().strip_prefix(b"0x")?;
+    let digits = word.strip_prefix("0x")?;
     let value = read_numeral(digits, 16, 8)?;
     Some(value as u32)
 }

@@ -1,14 +1,17 @@
+//! The words of the command line.
+
 ghost use Rattle.std.specs.Prelude.{◌≡◌, ◌↔◌, None, Some, map, IfOk};
 ghost use Rattle.std.specs.Option.{ok_or};
 ghost use Rattle.std.specs.String.{string_bytes};
+ghost use Rattle.ct_pairs.specs.Limits.{IsBound};
 ghost use Rattle.ct_lines.specs.Commands.{run_of, byte_of, trace_of, replay_of, list_of, gen_of, command_of, AreWithinLimits};
-ghost use Rattle.ct_lines.specs.Words.{IsWithin};
 
 use crate::check_words::read_check;
-use crate::command::Command;
+use crate::command::{Command, MOST_BLOCKS};
 use crate::run::Run;
 use crate::word::{kept, read_entry, read_name, read_number};
 use crate::words_refusal::WordsRefusal;
+use ct_pairs::MOST_BOUND;
 use std::alloc::Global;
 
 /// Reads the words after the program's name: `byte BINARY ENTRY BOUND`, `check BINARY POLICY` with
@@ -70,13 +73,13 @@ fn read_trace(alloc: Global, words: &[String]) -> Result<Command, WordsRefusal>
 fn read_run(alloc: Global, words: &[String]) -> Result<Run, WordsRefusal>
     ensures accepted { IfOk result (λ run. run_of (map string_bytes words.now) ≡ Some run) }
     ensures refused { (result ≡ Err WordsRefusal.Refused) ↔ (run_of (map string_bytes words.now) ≡ None) }
-    ensures bound { IfOk result (λ run. IsWithin 1 100_000 run.bound) }
+    ensures bound { IfOk result (λ run. IsBound run.bound) }
 {
     let [binary, entry, bound] = words else {
         return Err(WordsRefusal::Refused);
     };
     let name = read_name(binary.as_str()).ok_or(WordsRefusal::Refused)?;
-    let bound = read_number(bound.as_str(), 1, 100_000).ok_or(WordsRefusal::Refused)?;
+    let bound = read_number(bound.as_str(), 1, MOST_BOUND).ok_or(WordsRefusal::Refused)?;
     let entry = read_entry(alloc, entry.as_str())?;
     let binary = kept(alloc, name)?;
     Ok(Run {
@@ -129,7 +132,7 @@ fn read_gen(words: &[String]) -> Result<Command, WordsRefusal>
         return Err(WordsRefusal::Refused);
     };
     let number = read_number(number.as_str(), 0, u32::MAX).ok_or(WordsRefusal::Refused)?;
-    let size = read_number(size.as_str(), 1, 20_000).ok_or(WordsRefusal::Refused)?;
+    let size = read_number(size.as_str(), 1, MOST_BLOCKS).ok_or(WordsRefusal::Refused)?;
     Ok(Command::Gen { number, size })
 }
 

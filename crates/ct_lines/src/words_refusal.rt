@@ -1,3 +1,5 @@
+//! Why words gave no command.
+
 ghost use Rattle.std.specs.Prelude.{◌≡◌};
 ghost use Rattle.ct_lines.specs.declared.words_refusal.WordsRefusal.TheVariants.{Memory};
 

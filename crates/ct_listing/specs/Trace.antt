@@ -2,8 +2,6 @@
 use Rattle.std.specs.Prelude.{ℕ, suc, List, [], ◌∷◌, ◌++◌, Option, Some, None, codes, decimal}
 use Rattle.rv_decode.specs.Text.{address_text}
 use Rattle.rv_image.specs.Cell.{Cell}
-use Rattle.rv_machine.specs.declared.touch.Touch.{Touch}
-use Rattle.rv_machine.specs.declared.touch.Touch.TheVariants.{Nothing, Load, Store}
 use Rattle.rv_machine.specs.declared.«record».Record.{Record}
 use Rattle.rv_machine.specs.declared.end.End.{End}
 use Rattle.rv_machine.specs.declared.end.End.TheVariants.{Stop, BadFetch, Illegal, Call, Fault}
@@ -12,21 +10,7 @@ use Rattle.rv_machine.specs.Trail.{trail, state_after}
 use Rattle.ct_pairs.specs.declared.job.Job.{Job}
 use Rattle.ct_pairs.specs.Start.{start}
 use Rattle.ct_rows.specs.Lines.{line}
-
--- the memory access of a step and its first address, or - where there is none
-abbrev pub touch_text : Touch → List ℕ
-touch_text Nothing = codes "-"
-touch_text (Load address) = codes "load " ++ address_text address
-touch_text (Store address) = codes "store " ++ address_text address
-
--- the next pc, or - where there is none
-abbrev pub next_text : Option ℕ → List ℕ
-next_text None = codes "-"
-next_text (Some next) = address_text next
-
--- what a step touches and where it goes
-unfoldable pub record_text : Record → List ℕ
-record_text seen = codes "touch " ++ touch_text seen.touch ++ codes " next " ++ next_text seen.next
+use Rattle.ct_texts.specs.Records.{record_text}
 
 -- a step by its number, with its pc
 unfoldable pub record_line : ℕ → Record → List ℕ

@@ -1,7 +1,6 @@
 //! The trace of a run and the words of an image, as texts of lines.
 #![tactic(auto)]
 
-mod digits;
 mod list;
 mod trace;
 

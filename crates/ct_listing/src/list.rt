@@ -1,11 +1,12 @@
+//! The words of an image.
 ghost use Rattle.std.specs.Prelude.{◌≡◌, ◌++◌, ◌+◌, ◌≤◌, ◌^◌, IfOk};
 ghost use Rattle.std.specs.List.{flat_map};
 ghost use Rattle.std.specs.Result.{OnOk};
 ghost use Rattle.std.specs.String.{string_bytes};
 ghost use Rattle.ct_listing.specs.List.{word_text, word_line, fetched_line, span_lines, list_of};
 
-use crate::digits::{push_address, push_word};
 use ct_rows::Text;
+use ct_texts::{push_address, push_word};
 use rv_decode::{decode, text_of};
 use rv_image::{Image, Span};
 use std::alloc::{AllocError, Global};

@@ -1,3 +1,4 @@
+//! Traces and lists of small programs.
 ghost use Rattle.std.specs.Prelude.{◌≤◌, List, IfOk, length};
 ghost use Rattle.ct_pairs.specs.ByteJob.{IsByteJob};
 ghost use Rattle.rv_image.specs.Cell.{Cell};

@@ -1,3 +1,4 @@
+//! The trace of a run.
 ghost use Rattle.std.specs.Prelude.{◌≡◌, ◌++◌, [], ◌∷◌, length, IfOk, codes, decimal};
 ghost use Rattle.std.specs.Option.{option_to_list};
 ghost use Rattle.std.specs.Result.{OnOk};
@@ -6,52 +7,14 @@ ghost use Rattle.rv_image.specs.Image.{size_of};
 ghost use Rattle.rv_machine.specs.Trail.{trail, state_after};
 ghost use Rattle.ct_pairs.specs.Inputs.{public_count, secret_count};
 ghost use Rattle.ct_pairs.specs.Start.{bounded_trail};
-ghost use Rattle.ct_listing.specs.Trace.{touch_text, next_text, record_text, record_line, record_lines, ending_name, ending_line, trace_of};
+ghost use Rattle.ct_listing.specs.Trace.{record_line, record_lines, ending_name, ending_line, trace_of};
 
-use crate::digits::push_address;
 use ct_pairs::{Job, start_machine};
 use ct_rows::Text;
-use rv_machine::{End, Machine, Record, Touch};
+use ct_texts::{push_address, push_record};
+use rv_machine::{End, Machine, Record};
 use std::alloc::{AllocError, Global};
 use std::fmt::Write;
-
-/// Appends the memory access of a step.
-fn push_touch(text: &mut String, touch: Touch) -> Result<(), AllocError>
-    ensures { OnOk result (string_bytes text.new ≡ string_bytes text.old ++ touch_text touch) }
-{
-    match touch {
-        Touch::Nothing => text.push_str("-"),
-        Touch::Load(address) => {
-            text.push_str("load ")?;
-            push_address(text, address)
-        }
-        Touch::Store(address) => {
-            text.push_str("store ")?;
-            push_address(text, address)
-        }
-    }
-}
-
-/// Appends the next pc of a step.
-fn push_next(text: &mut String, next: Option<u32>) -> Result<(), AllocError>
-    ensures { OnOk result (string_bytes text.new ≡ string_bytes text.old ++ next_text next) }
-{
-    match next {
-        Some(next) => push_address(text, next),
-        None => text.push_str("-"),
-    }
-}
-
-/// Appends what a step touches and where it goes.
-#[tactic(auto, unfolding(crate::specs::Trace::record_text))]
-fn push_record(text: &mut String, seen: Record) -> Result<(), AllocError>
-    ensures { OnOk result (string_bytes text.new ≡ string_bytes text.old ++ record_text seen) }
-{
-    text.push_str("touch ")?;
-    push_touch(text, seen.touch)?;
-    text.push_str(" next ")?;
-    push_next(text, seen.next)
-}
 
 /// Appends the line of a step.
 #[tactic(auto, unfolding(crate::specs::Trace::record_line))]

@@ -1,209 +1,152 @@
--- A call that made a text, or found out why not, gives a right and complete answer.
-use Rattle.std.proofs.Common.{◌≡◌, ◌≢◌, ◌∙◌, ℕ, List, Option, None, Some, Result, Ok, Err, IfSome, IsSomeAnd, refl, sym, ap, subst, inl, inr, arith}
+-- A call that found a task and delivered it, or found out why not, gives a right and complete answer.
+use Rattle.std.proofs.Common.{◌≡◌, ◌∙◌, ℕ, List, [], Option, None, Some, Result, Ok, Err, IfSome, IfOk, IsSomeAnd, refl, sym, ap, subst, inl, inr}
+use Rattle.std.specs.declared.alloc.AllocError.{AllocError}
+use Rattle.rv_image.specs.Loading.{cells_of}
 use Rattle.ct_lines.specs.declared.command.Command.{Command}
-use Rattle.ct_lines.specs.declared.command.Command.TheVariants.{Byte, Check, Replay, Trace, List as Listing, Gen}
-use Rattle.ct_pairs.specs.declared.byte_table.ByteTable.{ByteTable}
+use Rattle.ct_lines.specs.declared.command.Command.TheVariants.{Byte, Check, Trace, List as Listing}
+use Rattle.ct_pairs.specs.declared.job.Job.{Job}
+use Rattle.ct_report.specs.declared.outcome.Outcome.{Outcome}
+use Rattle.ct_report.specs.Report.{report_of}
+use Rattle.ct_listing.specs.List.{list_of}
 use Rattle.ct_main.specs.declared.refusal.Refusal.{Refusal}
-use Rattle.ct_main.specs.declared.made.Made.{Made}
 use Rattle.ct_main.specs.declared.refusal.Refusal.TheVariants.{Words, Elf, Policy, Long, Later, Memory, ReadFault, WriteFault}
-use Rattle.ct_main.specs.Outside.{Reading, Writing, SinkFailed, WroteNothing}
-use Rattle.ct_main.specs.Contents.{Contents, contents_of, refusal_of, ReadsFiles}
-use Rattle.ct_main.specs.Causes.{Gives, TooLong, Checked}
-use Rattle.ct_main.specs.Making.{Gave, GaveTable, GaveText, NotMade, IsMade}
-use Rattle.ct_main.specs.Complete.{OrMemory, IsTold, IsComplete}
+use Rattle.ct_main.specs.declared.task.Task.{Task}
+use Rattle.ct_main.specs.declared.task.Task.TheVariants as tasks
+use Rattle.ct_main.specs.declared.made.Made.{Made}
+use Rattle.ct_main.specs.Outside.{Reading, Writing, WroteNothing}
+use Rattle.ct_main.specs.Phases.{Phase, phases_of}
+use Rattle.ct_main.specs.Reads.{EndsCommand}
+use Rattle.ct_main.specs.Outcomes.{IsOutcomeOf}
+use Rattle.ct_main.specs.Texts.{IsJobFor, IsCheck, IsReport, IsTextOf}
+use Rattle.ct_main.specs.Causes.{Accepts, WasChecked, Answered, Refuses}
+use Rattle.ct_main.specs.Complete.{IsComplete}
 use Rattle.ct_main.specs.Answer.{IsAnswer}
-use Rattle.ct_main.specs.Writes.{Wrote, WroteMade}
+use Rattle.ct_main.specs.Tasks.{IsTaskOf, IsPrepared, IsDone, WroteMade, IsDelivered}
+use Rattle.ct_main.proofs.Completing.{complete_words, complete_memory, complete_ends, complete_accepted}
 
--- the command of a call is the one of the words
-one_command : (words : Option Command) (command other : Command) → words ≡ Some command → words ≡ Some other → command ≡ other
-one_command words command other a b = cc
+-- a failing output is no refusal of a command's files
+never_writes : (reading : Reading) (phases : Option (List Phase)) → EndsCommand reading phases WriteFault → ⊥
+never_writes reading None ends = let same = ends.0 in cc
+never_writes reading (Some phases) ends = ends.0
 
--- what is asked of the words is asked of the command
-of_words : (words : Option Command) (command : Command) (P : Command → Type 0) → words ≡ Some command → IsSomeAnd words P → P command
-of_words None command P accepted holds = absurd holds
-of_words (Some other) command P accepted holds = let same : other ≡ command = cc in subst P same holds
+-- a call that was refused before it wrote
+refused_answer : (command : Command) (reading : Reading) (writing : Writing) (refusal : Refusal) → EndsCommand reading (phases_of command) refusal → WroteNothing writing → IsComplete (Some command) reading writing (Some refusal)
+refused_answer command reading writing refusal ends nothing = complete_ends (Some command) reading writing command (phases_of command) refusal refl refl ends
 
-for_words : (words : Option Command) (command : Command) (P : Command → Type 0) → words ≡ Some command → P command → IsSomeAnd words P
-for_words words command P accepted holds = subst (λ w. IsSomeAnd w P) (sym accepted) holds
+pub answer_refused : (words : Option Command) (reading : Reading) (writing : Writing) (refusal : Refusal) → Refuses words reading refusal → WroteNothing writing → IsAnswer words reading writing None (Some refusal)
+answer_refused words reading writing Words why nothing =
+    record { right = tt; cause = why; has_outcome = refl; writes = nothing; complete = complete_words words reading writing why.0 why.1 }
+answer_refused words reading writing Memory why nothing =
+    record { right = tt; cause = why; has_outcome = tt; writes = nothing; complete = complete_memory words reading writing }
+answer_refused None reading writing (Elf rule) why nothing = absurd why
+answer_refused None reading writing (Policy rule) why nothing = absurd why
+answer_refused None reading writing Long why nothing = absurd why
+answer_refused None reading writing Later why nothing = absurd why
+answer_refused None reading writing ReadFault why nothing = absurd why
+answer_refused None reading writing WriteFault why nothing = absurd why
+answer_refused (Some command) reading writing WriteFault why nothing = absurd (never_writes reading (phases_of command) why)
+answer_refused (Some command) reading writing (Elf rule) why nothing =
+    record { right = tt; cause = why; has_outcome = refl; writes = nothing; complete = refused_answer command reading writing (Elf rule) why nothing }
+answer_refused (Some command) reading writing (Policy rule) why nothing =
+    record { right = tt; cause = why; has_outcome = refl; writes = nothing; complete = refused_answer command reading writing (Policy rule) why nothing }
+answer_refused (Some command) reading writing Long why nothing =
+    record { right = tt; cause = why; has_outcome = refl; writes = nothing; complete = refused_answer command reading writing Long why nothing }
+answer_refused (Some command) reading writing Later why nothing =
+    record { right = tt; cause = why; has_outcome = refl; writes = nothing; complete = refused_answer command reading writing Later why nothing }
+answer_refused (Some command) reading writing ReadFault why nothing =
+    record { right = tt; cause = why; has_outcome = refl; writes = nothing; complete = refused_answer command reading writing ReadFault why nothing }
 
--- a command that reads no files is refused for that
-not_built : (command : Command) (contents : Contents) → (ReadsFiles command → ⊥) → refusal_of command contents ≡ Some Later
-unfolding refusal_of
-not_built (Byte binary entry bound) contents unread = absurd (unread tt)
-not_built (Check binary policy bound workers budget targets) contents unread = absurd (unread tt)
-not_built (Replay binary policy pair) contents unread = refl
-not_built (Trace binary entry bound) contents unread = absurd (unread tt)
-not_built (Listing binary) contents unread = absurd (unread tt)
-not_built (Gen number size) contents unread = refl
+-- an outcome that is there
+of_outcome : (outcome : Option Outcome) (found : Outcome) (P : Outcome → Type 0) → outcome ≡ Some found → IfSome outcome P → P found
+of_outcome None found P is holds = absurd cc
+of_outcome (Some other) found P is holds = let same : other ≡ found = cc in subst P same holds
 
--- files that the shelf tells give what the files that were read gave
-told_first : (files : Option (List ℕ → Option (List ℕ))) (command : Command) (contents : Contents) (known : List ℕ → Option (List ℕ)) (refusal expected : Option Refusal) → IfSome files (λ told. contents ≡ contents_of told command) → files ≡ Some known → refusal_of command contents ≡ refusal → refusal_of command (contents_of known command) ≡ expected → refusal ≡ expected
-told_first None command contents known refusal expected own told first other = absurd cc
-told_first (Some told) command contents known refusal expected own same first other =
-    let equal : told ≡ known = cc in
-    let held : contents ≡ contents_of known command = subst (λ k. contents ≡ contents_of k command) equal own in
-    sym first ∙ ap (λ c. refusal_of command c) held ∙ other
+-- the outcome of a command's job
+checked : (command : Command) (contents : List (List ℕ)) (job : Job) (outcome : Option Outcome) (found : Outcome) → IsJobFor command contents job → IfSome outcome (IsOutcomeOf job) → outcome ≡ Some found → IsCheck command contents found
+checked command contents job outcome found job_is made is = record { job = job; job_is = job_is; outcome_is = of_outcome outcome found (IsOutcomeOf job) is made }
 
--- a long file that the shelf tells is the first refusal
-told_long : (files : Option (List ℕ → Option (List ℕ))) (command : Command) (known : List ℕ → Option (List ℕ)) (expected : Option Refusal) → IfSome files (λ told. refusal_of command (contents_of told command) ≡ Some Long) → files ≡ Some known → refusal_of command (contents_of known command) ≡ expected → Some Long ≡ expected
-told_long None command known expected own told other = absurd cc
-told_long (Some told) command known expected own same other =
-    let equal : told ≡ known = cc in
-    let long = subst (λ k. refusal_of command (contents_of k command) ≡ Some Long) equal own in
-    sym long ∙ other
+-- what a task found is the outcome of the command's job
+check_of_task : (command : Command) (contents : List (List ℕ)) (task : Task) (made : Made) (found : Outcome) → IsTaskOf command contents task → IsDone task made → made.outcome ≡ Some found → IsCheck command contents found
+check_of_task (Byte binary entry bound) contents (tasks.Check job) made found task_is done is = checked (Byte binary entry bound) contents job made.outcome found task_is done.0 is
+check_of_task (Check binary policy bound workers budget targets) contents (tasks.Check job) made found task_is done is =
+    checked (Check binary policy bound workers budget targets) contents job made.outcome found task_is done.0 is
+check_of_task (Trace binary entry bound) contents (tasks.Trace job) made found task_is done is = absurd (let none = done.0 in cc)
+check_of_task (Listing binary) contents (tasks.List elf) made found task_is done is = absurd (let none = done.0 in cc)
+check_of_task _ contents _ made found task_is done is = absurd task_is
 
--- what the shelf's own files give, in terms of the command of the call
-told_of : (words : Option Command) (reading : Reading) (command other : Command) (known : List ℕ → Option (List ℕ)) (expected : Option Refusal) → words ≡ Some command → IsTold words reading other known expected → refusal_of command (contents_of known command) ≡ expected
-told_of words reading command other known expected accepted told =
-    let same = one_command words other command told.accepted accepted in
-    subst (λ c. refusal_of c (contents_of known c) ≡ expected) same told.first
+-- the report of a command's job
+reported : (command : Command) (contents : List (List ℕ)) (job : Job) (outcome : Option Outcome) (text : List ℕ) → IsJobFor command contents job → IfSome outcome (IsOutcomeOf job) → IsSomeAnd outcome (λ found. text ≡ report_of job found) → IsSomeAnd outcome (λ found. IsReport command contents found text)
+reported command contents job None text job_is made text_is = absurd text_is
+reported command contents job (Some found) text job_is made text_is = record { job = job; job_is = job_is; outcome_is = made; text_is = text_is }
 
-gave_first : (words : Option Command) (reading : Reading) (command other : Command) (contents : Contents) (known : List ℕ → Option (List ℕ)) (refusal expected : Option Refusal) → words ≡ Some command → Gave reading command contents refusal → IsTold words reading other known expected → refusal ≡ expected
-gave_first words reading command other contents known refusal expected accepted gave told =
-    told_first reading.files command contents known refusal expected gave.hold.own told.files gave.first (told_of words reading command other known expected accepted told)
+-- a text that was made
+of_text : (result : Result (List ℕ) AllocError) (text : List ℕ) (P : List ℕ → Type 0) → result ≡ Ok text → IfOk result P → P text
+of_text (Ok other) text P is holds = let same : other ≡ text = cc in subst P same holds
+of_text (Err error) text P is holds = absurd cc
 
--- a call whose files gave no refusal: its answer is none, or the sink failed
-complete_text : (words : Option Command) (reading : Reading) (writing : Writing) (command : Command) (contents : Contents) (refusal : Option Refusal) → words ≡ Some command → Gave reading command contents None → ((SinkFailed writing → ⊥) → OrMemory None refusal) → IsComplete words reading writing refusal
-complete_text words reading writing command contents refusal accepted gave none = record {
-  words_refused = λ refused. absurd cc;
-  later = λ unbuilt. absurd (let first = not_built command contents (of_words words command (λ c. ReadsFiles c → ⊥) accepted unbuilt) in let own = gave.first in cc);
-  long = λ reads more. absurd (let short = (gave.hold.counted (of_words words command (λ c. ReadsFiles c) accepted reads)).short in omega (arith, short, more));
-  absent = λ other known told. absurd (let same = gave_first words reading command other contents known None (Some ReadFault) accepted gave told in cc);
-  refused = λ other known first told _. absurd (let same = gave_first words reading command other contents known None (Some first) accepted gave told in cc);
-  answered = λ _ _ _ _ works. none works;
-}
+-- the text of a task is the one for which the command asks
+text_of_task : (command : Command) (contents : List (List ℕ)) (task : Task) (made : Made) (text : List ℕ) → IsTaskOf command contents task → IsDone task made → made.text ≡ Ok text → IsTextOf command contents made.outcome text
+text_of_task (Byte binary entry bound) contents (tasks.Check job) made text task_is done is =
+    reported (Byte binary entry bound) contents job made.outcome text task_is done.0
+    (of_text made.text text (λ t. IsSomeAnd made.outcome (λ found. t ≡ report_of job found)) is done.1)
+text_of_task (Check binary policy bound workers budget targets) contents (tasks.Check job) made text task_is done is =
+    reported (Check binary policy bound workers budget targets) contents job made.outcome text task_is done.0
+    (of_text made.text text (λ t. IsSomeAnd made.outcome (λ found. t ≡ report_of job found)) is done.1)
+text_of_task (Trace binary entry bound) contents (tasks.Trace job) made text task_is done is =
+    (done.0, record { job = job; job_is = task_is; text_is = of_text made.text text (λ t. t ≡ _) is done.1 })
+text_of_task (Listing binary) contents (tasks.List elf) made text task_is done is =
+    (done.0, of_text made.text text (λ t. t ≡ list_of (cells_of elf [])) is done.1 ∙ ap (λ e. list_of (cells_of e [])) task_is)
+text_of_task _ contents _ made text task_is done is = absurd task_is
 
--- a call whose files gave a refusal that is no fault of reading
-complete_gave : (words : Option Command) (reading : Reading) (writing : Writing) (command : Command) (contents : Contents) (refusal : Refusal) → words ≡ Some command → Gave reading command contents (Some refusal) → refusal ≢ ReadFault → IsComplete words reading writing (Some refusal)
-complete_gave words reading writing command contents refusal accepted gave other_cause = record {
-  words_refused = λ refused. absurd cc;
-  later = λ unbuilt. inl (let first = not_built command contents (of_words words command (λ c. ReadsFiles c → ⊥) accepted unbuilt) in let own = gave.first in cc);
-  long = λ reads more. absurd (let short = (gave.hold.counted (of_words words command (λ c. ReadsFiles c) accepted reads)).short in omega (arith, short, more));
-  absent = λ other known told. absurd (let same = gave_first words reading command other contents known (Some refusal) (Some ReadFault) accepted gave told in other_cause cc);
-  refused = λ other known first told _. inl (gave_first words reading command other contents known (Some refusal) (Some first) accepted gave told);
-  answered = λ other known told _ _. absurd (let same = gave_first words reading command other contents known (Some refusal) None accepted gave told in cc);
-}
+-- the words and the files of a command that was prepared
+accepts_of : (command : Command) (reading : Reading) (task : Task) (prepared : IsPrepared reading command task) → Accepts (Some command) reading command prepared.passed.contents
+accepts_of command reading task prepared = record { words_are = refl; phases = prepared.phases; built = prepared.built; accepted = prepared.passed.accepted }
 
-gives_of : (words : Option Command) (reading : Reading) (command : Command) (contents : Contents) (refusal : Option Refusal) → words ≡ Some command → Gave reading command contents refusal → Gives words reading command contents refusal
-gives_of words reading command contents refusal accepted gave = record { accepted = accepted; hold = gave.hold; first = gave.first }
-
--- a table that was made is that of the words and the files
-right_after : (words : Option Command) (reading : Reading) (command : Command) (table : Option ByteTable) → words ≡ Some command → IfSome table (GaveTable reading command) → IfSome table (Checked words reading)
-right_after words reading command None accepted made = tt
-right_after words reading command (Some table) accepted made = record {
+right_of : (command : Command) (reading : Reading) (task : Task) (made : Made) (outcome : Option Outcome) → IsPrepared reading command task → IsDone task made → outcome ≡ made.outcome → IfSome outcome (WasChecked (Some command) reading)
+right_of command reading task made None prepared done is = tt
+right_of command reading task made (Some found) prepared done is = record {
   command = command;
-  contents = made.contents;
-  gives = gives_of words reading command made.contents None accepted made.gave;
-  is_check = made.is_check;
+  contents = prepared.passed.contents;
+  accepts = accepts_of command reading task prepared;
+  is_check = check_of_task command prepared.passed.contents task made found prepared.passed.says done (sym is);
 }
 
--- a text was made, and written as far as the sink took it
-answer_written : (words : Option Command) (reading : Reading) (writing : Writing) (command : Command) (table : Option ByteTable) (text : List ℕ) (refusal : Option Refusal) → words ≡ Some command → IfSome table (GaveTable reading command) → GaveText reading command table text → Wrote writing text refusal → IsAnswer words reading writing table refusal
-answer_written words reading writing command table text None accepted made gave written = record {
-  right = right_after words reading command table accepted made;
-  cause = record {
-    text = text;
-    answered = record { command = command; contents = gave.contents; gives = gives_of words reading command gave.contents None accepted gave.gave; text_is = gave.text_is };
-    written = written;
-  };
-  has_table = tt;
+answered_of : (command : Command) (reading : Reading) (task : Task) (made : Made) (outcome : Option Outcome) (text : List ℕ) → IsPrepared reading command task → IsDone task made → outcome ≡ made.outcome → made.text ≡ Ok text → Answered (Some command) reading outcome text
+answered_of command reading task made outcome text prepared done is text_is = record {
+  command = command;
+  contents = prepared.passed.contents;
+  accepts = accepts_of command reading task prepared;
+  text_is = subst (λ o. IsTextOf command prepared.passed.contents o text) (sym is) (text_of_task command prepared.passed.contents task made text prepared.passed.says done text_is);
+}
+
+-- what was written of the text of a task
+written : (command : Command) (reading : Reading) (writing : Writing) (task : Task) (made : Made) (outcome : Option Outcome) (text : Result (List ℕ) AllocError) (refusal : Option Refusal) → IsPrepared reading command task → IsDone task made → outcome ≡ made.outcome → made.text ≡ text → WroteMade writing text refusal → IsAnswer (Some command) reading writing outcome refusal
+written command reading writing task made outcome (Ok text) None prepared done is text_is wrote = record {
+  right = right_of command reading task made outcome prepared done is;
+  cause = record { text = text; answered = answered_of command reading task made outcome text prepared done is text_is; written = wrote };
+  has_outcome = tt;
   writes = tt;
-  complete = complete_text words reading writing command gave.contents None accepted gave.gave (λ _. inl refl);
+  complete = complete_accepted (Some command) reading writing command prepared.phases prepared.passed.contents None refl prepared.built prepared.passed.accepted (λ _. inl refl);
 }
-answer_written words reading writing command table text (Some WriteFault) accepted made gave written = record {
-  right = right_after words reading command table accepted made;
-  cause = record {
-    text = text;
-    answered = record { command = command; contents = gave.contents; gives = gives_of words reading command gave.contents None accepted gave.gave; text_is = gave.text_is };
-    written = written;
-  };
-  has_table = tt;
-  writes = tt;
-  complete = complete_text words reading writing command gave.contents (Some WriteFault) accepted gave.gave (λ works. absurd (works written.cause));
-}
-answer_written words reading writing command table text (Some Memory) accepted made gave written = absurd written
-answer_written words reading writing command table text (Some Words) accepted made gave written = absurd written
-answer_written words reading writing command table text (Some (Elf rule)) accepted made gave written = absurd written
-answer_written words reading writing command table text (Some (Policy rule)) accepted made gave written = absurd written
-answer_written words reading writing command table text (Some Long) accepted made gave written = absurd written
-answer_written words reading writing command table text (Some Later) accepted made gave written = absurd written
-answer_written words reading writing command table text (Some ReadFault) accepted made gave written = absurd written
+written command reading writing task made outcome (Ok text) (Some refusal) prepared done is text_is wrote =
+    subst (λ r. IsAnswer (Some command) reading writing outcome (Some r)) (sym wrote.0) (record {
+      right = right_of command reading task made outcome prepared done is;
+      cause = record { text = text; answered = answered_of command reading task made outcome text prepared done is text_is; written = wrote.1 };
+      has_outcome = tt;
+      writes = tt;
+      complete = complete_accepted (Some command) reading writing command prepared.phases prepared.passed.contents (Some WriteFault) refl prepared.built prepared.passed.accepted (λ works. absurd (works wrote.1.cause));
+    })
+written command reading writing task made outcome (Err error) None prepared done is text_is wrote = absurd wrote
+written command reading writing task made outcome (Err error) (Some refusal) prepared done is text_is wrote =
+    subst (λ r. IsAnswer (Some command) reading writing outcome (Some r)) (sym wrote.0) (record {
+      right = right_of command reading task made outcome prepared done is;
+      cause = inr (subst (λ p. EndsCommand reading p Memory) (sym prepared.built) (inr (inr (prepared.passed.contents, prepared.passed.accepted))));
+      has_outcome = tt;
+      writes = wrote.1;
+      complete = complete_memory (Some command) reading writing;
+    })
 
--- no text was made, and nothing written
-answer_refused : (words : Option Command) (reading : Reading) (writing : Writing) (command : Command) (table : Option ByteTable) (refusal : Refusal) → words ≡ Some command → IfSome table (GaveTable reading command) → (refusal ≢ Memory → table ≡ None) → NotMade reading command refusal → WroteNothing writing → IsAnswer words reading writing table (Some refusal)
-answer_refused words reading writing command table Memory accepted made no_table why nothing = record {
-  right = right_after words reading command table accepted made;
-  cause = tt;
-  has_table = tt;
-  writes = nothing;
-  complete = record {
-    words_refused = λ _. inr refl;
-    later = λ _. inr refl;
-    long = λ _ _. inr refl;
-    absent = λ _ _ _. inr refl;
-    refused = λ _ _ _ _ _. inr refl;
-    answered = λ _ _ _ _ _. inr refl;
-  };
-}
-answer_refused words reading writing command table (Elf rule) accepted made no_table why nothing = record {
-  right = right_after words reading command table accepted made;
-  cause = (record { command = command; contents = why.0.contents; gives = gives_of words reading command why.0.contents (Some (Elf rule)) accepted why.0.gave }, why.1);
-  has_table = no_table (λ same. absurd cc);
-  writes = nothing;
-  complete = complete_gave words reading writing command why.0.contents (Elf rule) accepted why.0.gave (λ same. absurd cc);
-}
-answer_refused words reading writing command table (Policy rule) accepted made no_table why nothing = record {
-  right = right_after words reading command table accepted made;
-  cause = (record { command = command; contents = why.0.contents; gives = gives_of words reading command why.0.contents (Some (Policy rule)) accepted why.0.gave }, why.1);
-  has_table = no_table (λ same. absurd cc);
-  writes = nothing;
-  complete = complete_gave words reading writing command why.0.contents (Policy rule) accepted why.0.gave (λ same. absurd cc);
-}
-answer_refused words reading writing command table Later accepted made no_table why nothing = record {
-  right = right_after words reading command table accepted made;
-  cause = record { command = command; contents = why.contents; gives = gives_of words reading command why.contents (Some Later) accepted why.gave };
-  has_table = no_table (λ same. absurd cc);
-  writes = nothing;
-  complete = complete_gave words reading writing command why.contents Later accepted why.gave (λ same. absurd cc);
-}
-answer_refused words reading writing command table Long accepted made no_table why nothing = record {
-  right = right_after words reading command table accepted made;
-  cause = for_words words command (λ c. TooLong reading c) accepted why;
-  has_table = no_table (λ same. absurd cc);
-  writes = nothing;
-  complete = record {
-    words_refused = λ refused. absurd cc;
-    later = λ unbuilt. absurd (of_words words command (λ c. ReadsFiles c → ⊥) accepted unbuilt why.reads);
-    long = λ _ _. inl refl;
-    absent = λ other known told. absurd (let same = told_long reading.files command known (Some ReadFault) why.own told.files (told_of words reading command other known (Some ReadFault) accepted told) in cc);
-    refused = λ other known first told _. inl (told_long reading.files command known (Some first) why.own told.files (told_of words reading command other known (Some first) accepted told));
-    answered = λ other known told _ _. absurd (let same = told_long reading.files command known None why.own told.files (told_of words reading command other known None accepted told) in cc);
-  };
-}
-answer_refused words reading writing command table ReadFault accepted made no_table why nothing = record {
-  right = right_after words reading command table accepted made;
-  cause = (for_words words command (λ c. ReadsFiles c) accepted why.0, why.1);
-  has_table = no_table (λ same. absurd cc);
-  writes = nothing;
-  complete = record {
-    words_refused = λ refused. absurd cc;
-    later = λ unbuilt. absurd (of_words words command (λ c. ReadsFiles c → ⊥) accepted unbuilt why.0);
-    long = λ _ more. absurd (let short = why.1.short in omega (arith, short, more));
-    absent = λ _ _ _. inl refl;
-    refused = λ _ _ _ _ works. absurd (works why.1.cause);
-    answered = λ _ _ _ works _. absurd (works why.1.cause);
-  };
-}
-answer_refused words reading writing command table Words accepted made no_table why nothing = absurd why
-answer_refused words reading writing command table WriteFault accepted made no_table why nothing = absurd why
-
--- whether a text was made or not
-after_text : (words : Option Command) (reading : Reading) (writing : Writing) (command : Command) (table : Option ByteTable) (text : Result (List ℕ) Refusal) (refusal : Option Refusal) → words ≡ Some command → IsMade reading command (record { table = table; text = text }) → WroteMade writing text refusal → IsAnswer words reading writing table refusal
-after_text words reading writing command table (Ok text) refusal accepted made written =
-    answer_written words reading writing command table text refusal accepted made.table made.text written
-after_text words reading writing command table (Err refused) refusal accepted made written =
-    rw written.0 (answer_refused words reading writing command table refused accepted made.table made.no_table made.text written.1)
-
-pub answer_after : (words : Option Command) (reading : Reading) (writing : Writing) (command : Command) (made : Made) (refusal : Option Refusal) → words ≡ Some command → IsMade reading command made → WroteMade writing made.text refusal → IsAnswer words reading writing made.table refusal
-answer_after words reading writing command made refusal accepted is_made written =
-    after_text words reading writing command made.table made.text refusal accepted is_made written
+pub answer_delivered : (words : Option Command) (reading : Reading) (writing : Writing) (task : Task) (outcome : Option Outcome) (refusal : Option Refusal) → IsSomeAnd words (λ command. IsPrepared reading command task) → IsDelivered task writing outcome refusal → IsAnswer words reading writing outcome refusal
+answer_delivered None reading writing task outcome refusal prepared delivered = absurd prepared
+answer_delivered (Some command) reading writing task outcome refusal prepared delivered =
+    written command reading writing task delivered.made outcome delivered.made.text refusal prepared delivered.done delivered.outcome_is refl delivered.wrote

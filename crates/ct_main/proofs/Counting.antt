@@ -3,7 +3,7 @@ use Rattle.std.proofs.Common.{◌≡◌, ◌+◌, Bool, true, false, List, [], �
 use Rattle.std.proofs.lemmas.Grind.{common_steps}
 use Rattle.ct_pairs.specs.declared.input_byte.InputByte.{InputByte}
 use Rattle.ct_pairs.specs.Inputs.{public_count, secret_count}
-use Rattle.ct_main.specs.Contents.{is_one_secret}
+use Rattle.ct_main.specs.Phases.{is_one_secret}
 
 -- an input byte is public or secret
 counts_add : (inputs : List InputByte) → public_count inputs + secret_count inputs ≡ length inputs

@@ -1,6 +1,8 @@
+pub mod PhaseLemmas
+pub mod PhaseExamples
+pub mod Completing
 pub mod Answering
-pub mod Asking
-pub mod Checks
+pub mod Passing
+pub mod RuleLemmas
+pub mod Giving
 pub mod Counting
-pub mod Holding
-pub mod Makes

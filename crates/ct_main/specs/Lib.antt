@@ -1,10 +1,12 @@
 pub mod FindingStatus
 pub mod Status
+pub mod Refusals
 pub mod Outside
-pub mod Contents
+pub mod Phases
+pub mod Reads
+pub mod Outcomes
 pub mod Texts
 pub mod Causes
 pub mod Complete
 pub mod Answer
-pub mod Making
-pub mod Writes
+pub mod Tasks

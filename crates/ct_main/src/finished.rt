@@ -1,9 +1,10 @@
+//! How a call of the program ended.
+
 ghost use Rattle.std.specs.Prelude.{◌≡◌, None, Some};
 ghost use Rattle.ct_main.specs.FindingStatus.{finding_status as finding_code};
 
 use crate::refusal::Refusal;
-use ct_pairs::ByteTable;
-use ct_report::{Finding, verdict_of};
+use ct_report::{Finding, Outcome};
 
 /// How a call of the program ended.
 #[derive(Debug, Drop)]
@@ -11,7 +12,7 @@ pub struct Finished {
     /// The exit status: 0 secure, or a whole trace or list; 1 insecure; and from 64 on a refusal's.
     pub status: u8,
     /// What the check found, where it ran to its end.
-    pub table: Option<ByteTable>,
+    pub outcome: Option<Outcome>,
     /// Why no whole text was written, if none was.
     pub refusal: Option<Refusal>,
 }
@@ -20,28 +21,28 @@ impl Finished {
     ghost use Rattle.ct_main.specs.Status.{refusal_status, status_of};
 
     /// The end of a call that ran nothing.
-    pub fn refused(refusal: Refusal) -> Self
-        ensures { result ≡ record { status = refusal_status refusal; table = None; refusal = Some refusal } }
+    pub(crate) fn refused(refusal: Refusal) -> Self
+        ensures { result ≡ record { status = refusal_status refusal; outcome = None; refusal = Some refusal } }
     {
         Finished {
             status: refusal.status(),
-            table: None,
+            outcome: None,
             refusal: Some(refusal),
         }
     }
 
-    /// The end of a call that read its file, with the table of a check.
-    pub fn ended(table: Option<ByteTable>, refusal: Option<Refusal>) -> Self
-        ensures { result ≡ record { status = status_of table refusal; table = table; refusal = refusal } }
+    /// The end of a call whose files passed, with the outcome of a check.
+    pub(crate) fn ended(outcome: Option<Outcome>, refusal: Option<Refusal>) -> Self
+        ensures { result ≡ record { status = status_of outcome refusal; outcome = outcome; refusal = refusal } }
     {
-        let status = match (&refusal, &table) {
+        let status = match (&refusal, &outcome) {
             (Some(refusal), _) => refusal.status(),
-            (None, Some(table)) => finding_status(verdict_of(table)),
+            (None, Some(outcome)) => finding_status(outcome.verdict()),
             (None, None) => 0,
         };
         Finished {
             status,
-            table,
+            outcome,
             refusal,
         }
     }

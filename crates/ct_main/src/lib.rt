@@ -1,18 +1,21 @@
-//! The program as one call: words, files and an output in, a text and a status out.
+//! The program as one call: words, files and an output in, a text and a status out; and what it says of that on standard error.
 #![tactic(auto)]
 
-mod checking;
-mod file;
+mod errors;
+mod files;
 mod finished;
 mod made;
-mod making;
+mod output;
+mod preparation;
+mod process;
 mod program;
 mod refusal;
-mod showing;
-mod text_out;
+mod task;
 
+pub use errors::tell;
 pub use finished::Finished;
-pub use program::ctrel;
+pub use process::{finish, run};
+pub use program::{ASKED_BEFORE, ctrel};
 pub use refusal::Refusal;
 
 #[cfg(test)]

@@ -1,33 +1,96 @@
-use crate::refusal::Refusal;
-use ct_pairs::ByteTable;
-use ct_rows::Text;
+//! What came of a task, before anything is written.
 
-/// What a command makes of a file, before anything is written.
+ghost use Rattle.std.specs.Prelude.{◌≡◌, [], None, IfOk};
+ghost use Rattle.elf_load.specs.Layout.{FitsMemory, segment_extents};
+ghost use Rattle.rv_image.specs.Loading.{cells_of};
+ghost use Rattle.ct_pairs.specs.Covered.{AreTrueSites};
+ghost use Rattle.ct_listing.specs.List.{list_of};
+ghost use Rattle.ct_report.specs.Report.{report_of};
+ghost use Rattle.ct_main.specs.Outcomes.{IsOutcomeOf};
+ghost use Rattle.ct_main.specs.Tasks.{HasOneSecret, CanDo, IsDone};
+
+use crate::task::Task;
+use ct_listing::{list_text, trace_text};
+use ct_pairs::{Job, byte_check};
+use ct_report::{Outcome, report_text, sites_law};
+use ct_rows::Text;
+use elf_load::Elf;
+use rv_image::Image;
+use std::alloc::{AllocError, Global};
+
+/// What came of a task, before anything is written.
 #[derive(Debug, Drop)]
 pub(crate) struct Made {
     /// What the check found, where a check ran to its end.
-    pub table: Option<ByteTable>,
-    /// The whole text, or why there is none.
-    pub text: Result<Text, Refusal>,
+    pub outcome: Option<Outcome>,
+    /// The whole text, unless there was no memory for it.
+    pub text: Result<Text, AllocError>,
+}
+
+/// Checks a job of one secret byte by running all its pairs.
+fn check(alloc: Global, job: &Job) -> Result<Outcome, AllocError>
+    requires { HasOneSecret job.now }
+    ensures { IfOk result (IsOutcomeOf job.now) }
+{
+    Ok(Outcome::from(byte_check(alloc, job)?))
+}
+
+/// The whole report of a job and of the outcome of its check.
+fn report(alloc: Global, job: &Job, outcome: &Outcome) -> Result<Text, AllocError>
+    requires { AreTrueSites job.now outcome.now.sites }
+    ensures { IfOk result (λ text. text ≡ report_of job.now outcome.now) }
+{
+    sites_law(job, outcome.sites.as_slice());
+    report_text(alloc, job, outcome)
+}
+
+/// The words of an executable.
+fn list(alloc: Global, elf: Elf) -> Result<Text, AllocError>
+    requires { FitsMemory (segment_extents elf) }
+    ensures { IfOk result (λ text. text ≡ list_of (cells_of elf [])) }
+{
+    let image = Image::build(alloc, &elf, &[])?;
+    drop(elf);
+    list_text(alloc, &image)
 }
 
 impl Made {
-    ghost use Rattle.std.specs.Prelude.{◌≡◌, None, Err};
-
-    /// No text, and no table.
-    pub(crate) fn refused(refusal: Refusal) -> Made
-        ensures { result ≡ record { table = None; text = Err refusal } }
+    /// A text to which no outcome belongs.
+    fn without_outcome(text: Result<Text, AllocError>) -> Made
+        ensures { result ≡ record { outcome = None; text = text } }
     {
         Made {
-            table: None,
-            text: Err(refusal),
+            outcome: None,
+            text,
         }
     }
 
-    /// A text to which no table belongs.
-    pub(crate) fn without_table(text: Result<Text, Refusal>) -> Made
-        ensures { result ≡ record { table = None; text = text } }
+    /// Checks a job and makes the report.
+    fn by_check(alloc: Global, job: &Job) -> Made
+        requires { HasOneSecret job.now }
+        ensures { IsDone (Task.Check job.now) result }
     {
-        Made { table: None, text }
+        match check(alloc, job) {
+            Ok(outcome) => {
+                let text = report(alloc, job, &outcome);
+                Made {
+                    outcome: Some(outcome),
+                    text,
+                }
+            }
+            Err(error) => Made::without_outcome(Err(error)),
+        }
+    }
+
+    /// Does a task and makes its whole text.
+    pub(crate) fn by_task(alloc: Global, task: Task) -> Made
+        requires { CanDo task }
+        ensures { IsDone task result }
+    {
+        match task {
+            Task::Check(job) => Made::by_check(alloc, &job),
+            Task::Trace(job) => Made::without_outcome(trace_text(alloc, &job)),
+            Task::List(elf) => Made::without_outcome(list(alloc, elf)),
+        }
     }
 }

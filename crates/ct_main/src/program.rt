@@ -1,23 +1,54 @@
-ghost use Rattle.std.specs.Prelude.{◌≡◌, ◌≤◌, length, map};
+//! The call that the program makes.
+
+ghost use Rattle.std.specs.Prelude.{◌≡◌, ◌≤◌, length, map, IfOk};
 ghost use Rattle.std.specs.String.{string_bytes};
 ghost use Rattle.ct_lines.specs.Commands.{command_of};
+ghost use Rattle.ct_main.specs.Outside.{read_of, wrote_of};
 ghost use Rattle.ct_main.specs.Status.{status_of};
-ghost use Rattle.ct_main.specs.Causes.{Asks};
 ghost use Rattle.ct_main.specs.Answer.{IsAnswer};
+ghost use Rattle.ct_main.specs.Tasks.{CanDo, Finds, IsDelivered};
 
 use crate::finished::Finished;
 use crate::made::Made;
-use crate::making::make;
+use crate::output::write_made;
+use crate::preparation::prepare;
 use crate::refusal::Refusal;
-use crate::text_out::write_made;
-use ct_lines::{WordsRefusal, read_words};
+use crate::task::Task;
+use ct_lines::read_words;
 use ct_outside::{Shelf, Sink};
 use std::alloc::Global;
+
+/// How many names the shelf may have been asked for before a call, so that it has room for those of the call.
+pub const ASKED_BEFORE: usize = 12;
+
+/// Reads the words and the files that they name; gives what remains to be done.
+fn find_task<F: Shelf>(alloc: Global, words: &[String], shelf: &mut F) -> Result<Task, Refusal>
+    requires { length (F.asked shelf.old) ≤ ASKED_BEFORE }
+    ensures found { Finds
+        (command_of (map string_bytes words.now))
+        (read_of F.files F.asked F.given F.faults shelf.old shelf.new) result }
+    ensures can { IfOk result CanDo }
+{
+    let command = read_words(alloc, words)?;
+    prepare(alloc, shelf, &command)
+}
+
+/// Does a task and writes its whole text.
+fn deliver<S: Sink>(alloc: Global, task: Task, out: &mut S) -> Finished
+    requires { CanDo task }
+    ensures delivered { IsDelivered task
+        (wrote_of S.written S.sure S.faults out.old out.new) result.outcome result.refusal }
+    ensures status { result.status ≡ status_of result.outcome result.refusal }
+{
+    let Made { outcome, text } = Made::by_task(alloc, task);
+    let refusal = write_made(text, out).err();
+    Finished::ended(outcome, refusal)
+}
 
 /// Runs the program on the words after its name.
 ///
 /// It reads the files that the words name, does what they ask, makes the whole text and then
-/// writes it; what it answers is the status to end with, the table of a check, and the refusal to
+/// writes it; what it answers is the status to end with, the outcome of a check, and the refusal to
 /// print. Its time and its memory are those of `byte_check`, `trace_text` or `list_text`, beside
 /// the files, the image and the text.
 pub fn ctrel<F: Shelf, S: Sink>(
@@ -26,34 +57,16 @@ pub fn ctrel<F: Shelf, S: Sink>(
     shelf: &mut F,
     out: &mut S,
 ) -> Finished
-    requires { length (F.asked shelf.old) ≤ 12 }
+    requires { length (F.asked shelf.old) ≤ ASKED_BEFORE }
     ensures answer { IsAnswer
         (command_of (map string_bytes words.now))
-        (record {
-          files = F.files shelf.old;
-          given = F.given shelf.new;
-          faults_before = F.faults shelf.old;
-          faults_after = F.faults shelf.new;
-        })
-        (record {
-          sure = S.sure out.old;
-          faults_before = S.faults out.old;
-          faults_after = S.faults out.new;
-          before = S.written out.old;
-          after = S.written out.new;
-        })
-        result.table result.refusal }
-    ensures asks { Asks
-        (command_of (map string_bytes words.now))
-        (F.asked shelf.old) (F.asked shelf.new) result.refusal }
-    ensures status { result.status ≡ status_of result.table result.refusal }
+        (read_of F.files F.asked F.given F.faults shelf.old shelf.new)
+        (wrote_of S.written S.sure S.faults out.old out.new)
+        result.outcome result.refusal }
+    ensures status { result.status ≡ status_of result.outcome result.refusal }
 {
-    let command = match read_words(alloc, words) {
-        Ok(command) => command,
-        Err(WordsRefusal::Memory) => return Finished::refused(Refusal::Memory),
-        Err(WordsRefusal::Refused) => return Finished::refused(Refusal::Words),
-    };
-    let Made { table, text } = make(alloc, shelf, &command);
-    let refusal = write_made(text, out);
-    Finished::ended(table, refusal)
+    match find_task(alloc, words, shelf) {
+        Ok(task) => deliver(alloc, task, out),
+        Err(refusal) => Finished::refused(refusal),
+    }
 }

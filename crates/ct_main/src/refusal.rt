@@ -1,6 +1,11 @@
-ghost use Rattle.std.specs.Prelude.{◌≡◌};
-ghost use Rattle.ct_main.specs.declared.refusal.Refusal.TheVariants.{Memory};
+//! Why the program wrote no text, or not the whole of one.
 
+ghost use Rattle.std.specs.Prelude.{◌≡◌};
+ghost use Rattle.ct_main.specs.declared.refusal.Refusal.TheVariants.{Memory, WriteFault};
+ghost use Rattle.ct_main.specs.Refusals.{words_refusal, read_refusal, elf_refusal, policy_refusal};
+
+use ct_lines::WordsRefusal;
+use ct_outside::{ReadEnd, WriteEnd};
 use ct_policy::PolicyRefusal;
 use elf_load::ElfRefusal;
 use std::alloc::AllocError;
@@ -19,7 +24,7 @@ pub enum Refusal {
     /// The policy, or the entry of a routine, meets not every rule.
     #[error("policy {0}")]
     Policy(PolicyRefusal),
-    /// A file has more than 2^26 bytes.
+    /// A file has more than `ct_outside::LONGEST` bytes.
     #[error("long")]
     Long,
     /// The command, or a check of other inputs than one secret byte, isn't built yet.
@@ -61,5 +66,58 @@ impl From<AllocError> for Refusal {
 
     fn from(_: AllocError) -> Self {
         Refusal::Memory
+    }
+}
+
+impl From<WordsRefusal> for Refusal {
+    ghost from_gives = { λ words refusal. refusal ≡ words_refusal words };
+
+    fn from(words: WordsRefusal) -> Self {
+        match words {
+            WordsRefusal::Memory => Refusal::Memory,
+            WordsRefusal::Refused => Refusal::Words,
+        }
+    }
+}
+
+impl From<ReadEnd> for Refusal {
+    ghost from_gives = { λ end refusal. refusal ≡ read_refusal end };
+
+    fn from(end: ReadEnd) -> Self {
+        match end {
+            ReadEnd::Memory => Refusal::Memory,
+            ReadEnd::Fault => Refusal::ReadFault,
+            ReadEnd::Long => Refusal::Long,
+        }
+    }
+}
+
+impl From<ElfRefusal> for Refusal {
+    ghost from_gives = { λ rule refusal. refusal ≡ elf_refusal rule };
+
+    fn from(rule: ElfRefusal) -> Self {
+        match rule {
+            ElfRefusal::Memory => Refusal::Memory,
+            rule => Refusal::Elf(rule),
+        }
+    }
+}
+
+impl From<PolicyRefusal> for Refusal {
+    ghost from_gives = { λ rule refusal. refusal ≡ policy_refusal rule };
+
+    fn from(rule: PolicyRefusal) -> Self {
+        match rule {
+            PolicyRefusal::Memory => Refusal::Memory,
+            rule => Refusal::Policy(rule),
+        }
+    }
+}
+
+impl From<WriteEnd> for Refusal {
+    ghost from_gives = { λ _ refusal. refusal ≡ WriteFault };
+
+    fn from(_: WriteEnd) -> Self {
+        Refusal::WriteFault
     }
 }

@@ -16,11 +16,12 @@ use Rattle.rv_image.specs.View.{total}
 use Rattle.rv_image.specs.Loading.{CanBuild, zeros_of, parts_of, insert_part, put_part, in_order, part_cells, cells_of}
 use Rattle.rv_image.proofs.Runs.{find-cells_from-hit, find-cells_from-miss, length-cells_from}
 use Rattle.rv_image.proofs.Ordering.{total-in_order}
-use Rattle.ct_policy.specs.declared.memory_entry.MemoryEntry.{MemoryEntry}
-use Rattle.ct_policy.specs.declared.policy.Policy.{Policy}
+use Rattle.ct_document.specs.declared.memory_entry.MemoryEntry.{MemoryEntry}
+use Rattle.ct_document.specs.declared.policy.Policy.{Policy}
 use Rattle.ct_policy.specs.Policy.{segment_region, memory_region, memory_span, accessible, extra_spans}
 use Rattle.ct_policy.specs.Regions.{holds}
-use Rattle.ct_policy.proofs.Lists.{or_swap, list_any-map, list_any-weaker, is_some-find-flat_map}
+use Rattle.ct_document.proofs.Lists.{list_any-map}
+use Rattle.ct_policy.proofs.Lists.{or_swap, list_any-weaker, is_some-find-flat_map}
 
 -- a part has a cell at the address
 abbrev hits : ℕ → Segment → Bool

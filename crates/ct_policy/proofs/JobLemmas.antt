@@ -6,19 +6,20 @@ use Rattle.std.proofs.lemmas.Bool.{and_parts, leb-true}
 use Rattle.std.proofs.lemmas.List.{length-map, get_or-map}
 use Rattle.std.proofs.lemmas.List.FromFn.{length-map-range_with_len}
 use Rattle.elf_load.specs.declared.elf.Elf.{Elf}
+use Rattle.elf_load.specs.Overlap.{first_overlap}
 use Rattle.rv_image.specs.Loading.{cells_of}
-use Rattle.ct_pairs.specs.Limits.{AreLimits}
+use Rattle.ct_pairs.specs.Limits.{AreLimits, IsBound, most_bound}
 use Rattle.ct_policy.specs.declared.options.Options.{Options}
-use Rattle.ct_policy.specs.declared.register.Register.{Register}
-use Rattle.ct_policy.specs.declared.policy.Policy.{Policy}
+use Rattle.ct_document.specs.declared.register.Register.{Register}
+use Rattle.ct_document.specs.declared.policy.Policy.{Policy}
 use Rattle.ct_policy.specs.Limits.{AreOptions}
 use Rattle.ct_policy.specs.Numbers.{word_of, address_word}
 use Rattle.ct_policy.specs.Policy.{register_values, set_value, named_registers, input_register, accessible, input_region, input_regions, input_size, extra_spans, all_input_bytes}
-use Rattle.ct_policy.specs.Regions.{end_of, is_accessible, first_overlap}
+use Rattle.ct_policy.specs.Regions.{end_of, is_accessible}
 use Rattle.ct_policy.specs.Rules.{is_once, are_registers, are_few, input_is_within, value_refusal, memory_refusal}
 use Rattle.ct_policy.proofs.Cells.{accessible_at, cells_small}
 use Rattle.ct_policy.proofs.Fitting.{can_build}
-use Rattle.ct_policy.proofs.Inputs.{inputs_differ, inputs_placed, input_ends, length-input_bytes}
+use Rattle.ct_policy.proofs.InputLemmas.{inputs_differ, inputs_placed, input_ends, length-input_bytes}
 use Rattle.ct_policy.proofs.Lists.{list_all_at}
 use Rattle.ct_policy.proofs.Meeting.{meets_value_rules, meets_memory_rules, has_numbers, word_within, each_accessible}
 
@@ -32,7 +33,7 @@ input_registers : (policy : Policy) → are_registers (named_registers policy) �
 unfolding named_registers
 input_registers policy all = registers-append (map (λ setting. setting.register) policy.registers) (filter_map input_register policy.inputs) all
 
-bound_within : (bound : Option ℕ) (own : ℕ) → IfSome bound (λ b. (1 ≤ b) × (b ≤ 100000)) → (1 ≤ own) × (own ≤ 100000) → (1 ≤ unwrap_or bound own) × (unwrap_or bound own ≤ 100000)
+bound_within : (bound : Option ℕ) (own : ℕ) → IfSome bound IsBound → IsBound own → IsBound (unwrap_or bound own)
 bound_within None own given within = within
 bound_within (Some b) own given within = given
 
@@ -47,14 +48,15 @@ limits_of elf policy options given values memory =
     let numbers = has_numbers policy value_rules.numbers in
     let image = cells_of elf (extra_spans policy) in
     let registers = input_registers policy value_rules.registers in
-    let bound = bound_within options.bound (word_of policy.bound) given.bound (word_within 1 100000 policy.bound numbers.bound (omega arith)) in
+    let own = word_within 1 most_bound policy.bound numbers.bound (omega arith) in
+    let bound = bound_within options.bound (word_of policy.bound) given.bound (record { least = own.0; most = own.1 }) in
     record {
       accessible_bytes = cells_small elf (extra_spans policy) (can_build elf policy memory_rules.fit);
       stop_count = omega (arith, length-map policy.stops address_word, numbers.stops);
       register_count = length-map-range_with_len (set_value policy.registers) 0 32;
       input_count = omega (arith, length-input_bytes policy.inputs, leb-true (sum_by input_size policy.inputs) 4096 memory_rules.few);
-      bound_least = bound.0;
-      bound_most = bound.1;
+      bound_least = bound.least;
+      bound_most = bound.most;
       budget_most = given.budget;
       targets_least = given.targets_least;
       targets_most = given.targets_most;

@@ -1,10 +1,9 @@
 mod Cells
 mod Covering
 mod Fitting
-mod Inputs
+mod InputLemmas
 mod JobLemmas
 mod Lists
 mod Meeting
 mod NumberLemmas
-mod Overlaps
 mod RegisterLemmas

@@ -1,7 +1,7 @@
 -- Tests of lists, and lists that are read item by item.
 use Rattle.std.proofs.Common.{◌≡◌, ℕ, zero, suc, ◌+◌, ◌<◌, ◌≤◌, Bool, true, false, not, ◌||◌, List, [], ◌∷◌, ◌++◌, length, get_or, take, map, Option, Some, None, refl, sym, ap, ◌∙◌, inl, inr, append_assoc, arith}
 use Rattle.std.specs.List.{list_any, list_all, flat_map, find, filter_map, cons_option, position, position_from, range_with_len}
-use Rattle.std.specs.Option.{is_some, option_or, option_map}
+use Rattle.std.specs.Option.{is_some, option_or}
 use Rattle.std.proofs.lemmas.Bool.{and_parts, cases_Bool, cases_lt}
 use Rattle.std.proofs.lemmas.Iterator.Adapters.{position_from-zero}
 use Rattle.std.proofs.lemmas.List.{take_more}
@@ -28,22 +28,7 @@ pub or_false : (a b : Bool) → (a || b) ≡ false → (a ≡ false) × (b ≡ f
 or_false true b e = absurd cc
 or_false false b e = (refl, e)
 
--- options
-
-pub option_or-none : {A : Type 0} (first second : Option A) → option_or first second ≡ None → (first ≡ None) × (second ≡ None)
-option_or-none None second none = (refl, none)
-option_or-none (Some x) second none = absurd cc
-
-pub option_map-none : {A B : Type 0} (f : A → B) (o : Option A) → option_map f o ≡ None → o ≡ None
-option_map-none f None none = refl
-option_map-none f (Some x) none = absurd cc
-
 -- tests of lists
-
--- a test of the images
-pub list_any-map : {A B : Type 0} (test : B → Bool) (image : A → B) (xs : List A) → list_any test (map image xs) ≡ list_any (λ x. test (image x)) xs
-list_any-map test image [] = refl
-list_any-map test image (x ∷ xs) = ap (λ rest. test (image x) || rest) (list_any-map test image xs)
 
 -- a weaker test
 pub list_any-weaker : {A : Type 0} (test weaker : A → Bool) (xs : List A) → ((x : A) → test x ≡ true → weaker x ≡ true) → list_any test xs ≡ true → list_any weaker xs ≡ true
@@ -86,10 +71,6 @@ is_some-find-flat_map test image (x ∷ xs) =
     ∙ is_some-or (find test (image x)) _
     ∙ ap (λ rest. is_some (find test (image x)) || rest) (is_some-find-flat_map test image xs)
 
--- what was read, before what is read next
-abbrev pub onto : {T : Type 0} → List T → Option (List T) → Option (List T)
-onto done rest = option_map (λ others. done ++ others) rest
-
 none_later : {A : Type 0} (test : A → Bool) (xs : List A) (i : ℕ) → position_from test i xs ≡ None → list_all (λ x. not (test x)) xs ≡ true
 none_later test [] i none = refl
 none_later test (x ∷ xs) i none =
@@ -107,11 +88,6 @@ pub list_all_at : {A : Type 0} (test : A → Bool) (xs : List A) (i : ℕ) (d : 
 list_all_at test [] i d all inside = absurd (omega arith)
 list_all_at test (x ∷ xs) zero d all inside = (and_parts (test x) _ all).0
 list_all_at test (x ∷ xs) (suc i) d all inside = list_all_at test xs i d (and_parts (test x) _ all).1 (omega arith)
-
--- the next item is read
-pub onto_more : {T : Type 0} (done : List T) (x : T) (rest : Option (List T)) → onto done (option_map (λ others. x ∷ others) rest) ≡ onto (done ++ x ∷ []) rest
-onto_more done x None = refl
-onto_more done x (Some others) = ap Some (sym (append_assoc done (x ∷ []) others))
 
 -- lists that grow at the end
 

@@ -1,28 +1,19 @@
 -- What holds of a policy that meets the rules.
-use Rattle.std.proofs.Common.{◌≡◌, ℕ, ℤ, pos, negsuc, ◌^◌, ◌<◌, ◌≤◌, Bool, true, false, not, ◌-◌, leb, List, [], ◌∷◌, length, Option, None, refl, arith}
-use Rattle.std.specs.List.{list_all, AllByRecursion}
+use Rattle.std.proofs.Common.{◌≡◌, ℕ, ℤ, pos, negsuc, ◌^◌, ◌<◌, ◌≤◌, Bool, true, not, ◌-◌, leb, List, [], ◌∷◌, length, None, refl, arith}
+use Rattle.std.specs.List.{list_all}
 use Rattle.std.proofs.lemmas.Bool.{and_parts, leb-true, le-leb}
 use Rattle.std.proofs.lemmas.List.{length-map}
+use Rattle.ct_rows.proofs.RuleLaws.{option_map-none, unless-none, first_of-none}
 use Rattle.elf_load.specs.declared.elf.Elf.{Elf}
-use Rattle.ct_policy.specs.declared.refusal.PolicyRefusal.{PolicyRefusal}
-use Rattle.ct_policy.specs.declared.refusal.PolicyRefusal.TheVariants as refused
-use Rattle.ct_policy.specs.declared.setting.Setting.{Setting}
-use Rattle.ct_policy.specs.declared.policy.Policy.{Policy}
+use Rattle.elf_load.specs.Overlap.{first_overlap}
+use Rattle.ct_document.specs.declared.refusal.PolicyRefusal.TheVariants as refused
+use Rattle.ct_document.specs.declared.setting.Setting.{Setting}
+use Rattle.ct_document.specs.declared.policy.Policy.{Policy}
 use Rattle.ct_policy.specs.Numbers.{is_within, word_of}
 use Rattle.ct_policy.specs.Policy.{named_registers, accessible, input_region, input_regions}
-use Rattle.ct_policy.specs.Regions.{is_accessible, first_outside, first_overlap, fit_memory}
-use Rattle.ct_policy.specs.Rules.{names_are_known, numbers_are_within, is_address, is_short, memory_is_within, input_is_within, are_registers, are_few, unless, first_of, value_rules, memory_rules, value_refusal, memory_refusal}
-use Rattle.ct_policy.proofs.Lists.{position-none, false-from_not, true-from_not, option_or-none, option_map-none}
-
-unless-none : (holds : Bool) (refusal : PolicyRefusal) → unless holds refusal ≡ None → holds ≡ true
-unless-none true refusal none = refl
-unless-none false refusal none = absurd cc
-
-first_of-none : (refusals : List (Option PolicyRefusal)) → first_of refusals ≡ None → AllByRecursion (λ refusal. refusal ≡ None) refusals
-first_of-none [] none = tt
-first_of-none (first ∷ others) none =
-    let both = option_or-none first (first_of others) none in
-    (both.0, first_of-none others both.1)
+use Rattle.ct_policy.specs.Regions.{start_of, end_of, is_accessible, first_outside, fit_memory}
+use Rattle.ct_policy.specs.Rules.{names_are_known, numbers_are_within, is_address, is_short, memory_is_within, input_is_within, are_registers, are_few, value_rules, memory_rules, value_refusal, memory_refusal}
+use Rattle.ct_policy.proofs.Lists.{position-none, false-from_not, true-from_not}
 
 -- the rules of names and numbers
 pub record MeetsValueRules (policy : Policy) : Type 0 where
@@ -39,7 +30,7 @@ meets_value_rules policy none =
 -- the rules of memory
 pub record MeetsMemoryRules (elf : Elf) (policy : Policy) : Type 0 where
   pub inside : first_outside (accessible elf policy) (input_regions policy) ≡ None
-  pub apart : first_overlap (input_regions policy) ≡ None
+  pub apart : first_overlap start_of end_of (input_regions policy) ≡ None
   pub few : are_few policy.inputs ≡ true
   pub fit : fit_memory (accessible elf policy) ≡ true
 

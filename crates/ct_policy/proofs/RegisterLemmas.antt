@@ -1,7 +1,7 @@
 -- The registers that a policy names, from one on.
 use Rattle.std.proofs.Common.{◌≡◌, ℕ, ◌+◌, ◌<◌, ◌≤◌, true, ◌&&◌, List, length, get_or, drop, refl}
 use Rattle.std.proofs.lemmas.List.{drop_more, drop_all}
-use Rattle.ct_policy.specs.declared.register.Register.{Register}
+use Rattle.ct_document.specs.declared.register.Register.{Register}
 use Rattle.ct_policy.specs.Rules.{is_once, are_registers}
 
 pub are_registers-drop : (registers : List Register) (i : ℕ) (d : Register) → i < length registers

@@ -8,8 +8,8 @@ use Rattle.ct_pairs.specs.declared.entry.Entry.TheVariants.{Number, Name}
 use Rattle.ct_pairs.specs.declared.job.Job.{Job}
 use Rattle.ct_pairs.specs.ByteJob.{IsByteJob}
 use Rattle.ct_policy.specs.Starting.{can_fetch}
-use Rattle.ct_policy.specs.declared.refusal.PolicyRefusal.{PolicyRefusal}
-use Rattle.ct_policy.specs.declared.refusal.PolicyRefusal.TheVariants as refused
+use Rattle.ct_document.specs.declared.refusal.PolicyRefusal.{PolicyRefusal}
+use Rattle.ct_document.specs.declared.refusal.PolicyRefusal.TheVariants as refused
 
 -- the address of an entry
 unfoldable pub entry_address : Elf → Entry → Option ℕ

@@ -5,10 +5,10 @@ use Rattle.rv_image.specs.Loading.{cells_of}
 use Rattle.toml.specs.Data.{Data}
 use Rattle.ct_pairs.specs.declared.job.Job.{Job}
 use Rattle.ct_policy.specs.declared.options.Options.{Options}
-use Rattle.ct_policy.specs.declared.policy.Policy.{Policy}
-use Rattle.ct_policy.specs.Document.{document_of}
+use Rattle.ct_document.specs.declared.policy.Policy.{Policy}
+use Rattle.ct_document.specs.Document.{document_of}
 use Rattle.ct_policy.specs.Numbers.{word_of, address_word}
-use Rattle.ct_policy.specs.Keys.{policy_of}
+use Rattle.ct_document.specs.Keys.{policy_of}
 use Rattle.ct_policy.specs.Policy.{register_values, extra_spans, all_input_bytes}
 use Rattle.ct_policy.specs.Rules.{first_policy_refusal}
 

@@ -1,13 +1,8 @@
 pub mod ByteJob
-pub mod Document
 pub mod Job
-pub mod Keys
 pub mod Limits
 pub mod Numbers
 pub mod Policy
-pub mod Reads
 pub mod Regions
-pub mod Registers
 pub mod Rules
 pub mod Starting
-pub mod Values

@@ -1,7 +1,7 @@
 -- The numbers of a policy.
 use Rattle.std.specs.Prelude.{ℕ, ℤ, pos, negsuc, ◌-◌, ◌^◌, nat_le, Bool, false, ◌&&◌, if◌then◌else◌}
-use Rattle.ct_policy.specs.declared.address.Address.{Address}
-use Rattle.ct_policy.specs.declared.address.Address.TheVariants.{Number, Symbol, Unknown}
+use Rattle.ct_document.specs.declared.address.Address.{Address}
+use Rattle.ct_document.specs.declared.address.Address.TheVariants.{Number, Symbol, Unknown}
 
 -- a whole number from `low` to `high`
 unfoldable pub is_within : ℕ → ℕ → ℤ → Bool

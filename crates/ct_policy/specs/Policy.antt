@@ -7,16 +7,15 @@ use Rattle.elf_load.specs.declared.elf.Elf.{Elf}
 use Rattle.rv_image.specs.declared.span.Span.{Span}
 use Rattle.ct_pairs.specs.declared.place.Place.TheVariants.{Register as RegisterByte, Memory as MemoryByte}
 use Rattle.ct_pairs.specs.declared.input_byte.InputByte.{InputByte}
-use Rattle.ct_policy.specs.declared.register.Register.{Register}
-use Rattle.ct_policy.specs.declared.register.Register.TheVariants.{Number as RegisterNumber, Unknown as UnknownRegister}
-use Rattle.ct_policy.specs.declared.setting.Setting.{Setting}
-use Rattle.ct_policy.specs.declared.kind.Kind.{Kind}
-use Rattle.ct_policy.specs.declared.kind.Kind.TheVariants.{Public, Secret}
-use Rattle.ct_policy.specs.declared.memory_entry.MemoryEntry.{MemoryEntry}
-use Rattle.ct_policy.specs.declared.input.Input.{Input}
-use Rattle.ct_policy.specs.declared.input.Input.TheVariants.{Register as RegisterInput, Memory as MemoryInput}
-use Rattle.ct_policy.specs.declared.policy.Policy.{Policy}
+use Rattle.ct_document.specs.declared.register.Register.{Register}
+use Rattle.ct_document.specs.declared.register.Register.TheVariants.{Number as RegisterNumber, Unknown as UnknownRegister}
+use Rattle.ct_document.specs.declared.setting.Setting.{Setting}
+use Rattle.ct_document.specs.declared.memory_entry.MemoryEntry.{MemoryEntry}
+use Rattle.ct_document.specs.declared.input.Input.{Input}
+use Rattle.ct_document.specs.declared.input.Input.TheVariants.{Register as RegisterInput, Memory as MemoryInput}
+use Rattle.ct_document.specs.declared.policy.Policy.{Policy}
 use Rattle.ct_policy.specs.declared.region.Region.{Region}
+use Rattle.ct_document.specs.Values.{is_secret}
 use Rattle.ct_policy.specs.Numbers.{word_of, address_word}
 
 -- the register has this number
@@ -87,11 +86,6 @@ extra_spans policy = map memory_span policy.memory
 abbrev pub input_size : Input → ℕ
 input_size (RegisterInput register bytes kind) = word_of bytes
 input_size (MemoryInput at offset length kind) = word_of length
-
--- whether an input is secret
-abbrev pub is_secret : Kind → Bool
-is_secret Public = false
-is_secret Secret = true
 
 -- the bytes of a register from byte 0 on
 abbrev pub register_bytes : ℕ → ℕ → Bool → List InputByte

@@ -1,25 +1,30 @@
 -- The rules that a policy meets, in the order in which they are tried.
 use Rattle.std.specs.Prelude.{ℕ, ◌-◌, ◌^◌, nat_lt, nat_le, Bool, true, false, not, ◌&&◌, List, [], ◌∷◌, length, Option, Some, None, sum_by}
 use Rattle.std.specs.List.{list_any, list_all}
-use Rattle.std.specs.Option.{option_map, option_or}
+use Rattle.std.specs.Option.{option_map}
+use Rattle.ct_rows.specs.Rules.{unless, first_of}
 use Rattle.elf_load.specs.declared.elf.Elf.{Elf}
+use Rattle.elf_load.specs.Numbers.{most_memory}
+use Rattle.elf_load.specs.Overlap.{first_overlap}
+use Rattle.ct_pairs.specs.Limits.{most_bound, most_inputs}
+use Rattle.ct_policy.specs.Limits.{most_items}
 use Rattle.toml.specs.Data.{Data}
-use Rattle.ct_policy.specs.declared.refusal.PolicyRefusal.{PolicyRefusal}
-use Rattle.ct_policy.specs.declared.refusal.PolicyRefusal.TheVariants as refused
-use Rattle.ct_policy.specs.declared.address.Address.{Address}
-use Rattle.ct_policy.specs.declared.address.Address.TheVariants.{Number, Symbol, Unknown}
-use Rattle.ct_policy.specs.declared.register.Register.{Register}
-use Rattle.ct_policy.specs.declared.register.Register.TheVariants.{Number as RegisterNumber, Unknown as UnknownRegister}
-use Rattle.ct_policy.specs.declared.memory_entry.MemoryEntry.{MemoryEntry}
-use Rattle.ct_policy.specs.declared.input.Input.{Input}
-use Rattle.ct_policy.specs.declared.input.Input.TheVariants.{Register as RegisterInput, Memory as MemoryInput}
-use Rattle.ct_policy.specs.declared.policy.Policy.{Policy}
-use Rattle.ct_policy.specs.Document.{document_of}
+use Rattle.ct_document.specs.declared.refusal.PolicyRefusal.{PolicyRefusal}
+use Rattle.ct_document.specs.declared.refusal.PolicyRefusal.TheVariants as refused
+use Rattle.ct_document.specs.declared.address.Address.{Address}
+use Rattle.ct_document.specs.declared.address.Address.TheVariants.{Number, Symbol, Unknown}
+use Rattle.ct_document.specs.declared.register.Register.{Register}
+use Rattle.ct_document.specs.declared.register.Register.TheVariants.{Number as RegisterNumber, Unknown as UnknownRegister}
+use Rattle.ct_document.specs.declared.memory_entry.MemoryEntry.{MemoryEntry}
+use Rattle.ct_document.specs.declared.input.Input.{Input}
+use Rattle.ct_document.specs.declared.input.Input.TheVariants.{Register as RegisterInput, Memory as MemoryInput}
+use Rattle.ct_document.specs.declared.policy.Policy.{Policy}
+use Rattle.ct_document.specs.Document.{document_of}
 use Rattle.ct_policy.specs.Numbers.{is_within, address_word}
-use Rattle.ct_policy.specs.Keys.{policy_of}
+use Rattle.ct_document.specs.Keys.{policy_of}
 use Rattle.ct_policy.specs.Policy.{is_register, named_registers, accessible, input_regions, extra_spans, input_size}
 use Rattle.ct_policy.specs.Starting.{can_fetch}
-use Rattle.ct_policy.specs.Regions.{first_outside, first_overlap, fit_memory}
+use Rattle.ct_policy.specs.Regions.{start_of, end_of, first_outside, fit_memory}
 
 -- an address value is a number, or names a symbol
 abbrev pub is_known : Address → Bool
@@ -49,17 +54,17 @@ is_address Unknown = true
 
 -- the numbers of a memory entry are in their ranges
 abbrev pub memory_is_within : MemoryEntry → Bool
-memory_is_within entry = is_address entry.at && is_within 1 (2 ^ 24) entry.length
+memory_is_within entry = is_address entry.at && is_within 1 most_memory entry.length
 
 -- the numbers of an input are in their ranges
 abbrev pub input_is_within : Input → Bool
 input_is_within (RegisterInput register bytes kind) = is_within 1 4 bytes
 input_is_within (MemoryInput at offset length kind) =
-    is_address at && (is_within 0 (2 ^ 32 - 1) offset && is_within 1 (2 ^ 24) length)
+    is_address at && (is_within 0 (2 ^ 32 - 1) offset && is_within 1 most_memory length)
 
 -- a list has at most 64 items
 abbrev pub is_short : {T : Type 0} → List T → Bool
-is_short items = nat_le (length items) 64
+is_short items = nat_le (length items) most_items
 
 -- P4: each number is in its range, and no list is longer than 64
 unfoldable pub numbers_are_within : Policy → Bool
@@ -68,7 +73,7 @@ numbers_are_within policy =
     && (is_address policy.entry
     && (is_short policy.stops
     && (list_all is_address policy.stops
-    && (is_within 1 100_000 policy.bound
+    && (is_within 1 most_bound policy.bound
     && (list_all (λ setting. is_address setting.value) policy.registers
     && (is_short policy.memory
     && (list_all memory_is_within policy.memory
@@ -100,11 +105,11 @@ first_inaccessible elf policy = first_outside (accessible elf policy) (input_reg
 
 -- P7: the first two inputs, by their indices among all inputs, that share an address
 abbrev pub first_overlapping : Policy → Option (ℕ × ℕ)
-first_overlapping policy = first_overlap (input_regions policy)
+first_overlapping policy = first_overlap start_of end_of (input_regions policy)
 
 -- P8: there are at most 4,096 input bytes
 unfoldable pub are_few : List Input → Bool
-are_few inputs = nat_le (sum_by input_size inputs) 4096
+are_few inputs = nat_le (sum_by input_size inputs) most_inputs
 
 -- P9: the segments and the memory entries end at or below 2^32, share no address, and have at most 2^24 bytes in all
 abbrev pub memory_fits : Elf → Policy → Bool
@@ -113,16 +118,6 @@ memory_fits elf policy = fit_memory (accessible elf policy)
 -- P10: an instruction can be fetched at the entry
 unfoldable pub can_start : Elf → Policy → Bool
 can_start elf policy = can_fetch elf (extra_spans policy) (address_word policy.entry)
-
--- a rule that holds refuses nothing, and one that fails has its refusal
-abbrev pub unless : Bool → PolicyRefusal → Option PolicyRefusal
-unless true refusal = None
-unless false refusal = Some refusal
-
--- the first refusal
-abbrev pub first_of : List (Option PolicyRefusal) → Option PolicyRefusal
-first_of [] = None
-first_of (rule ∷ rules) = option_or rule (first_of rules)
 
 -- P3 to P5
 abbrev pub value_rules : Policy → List (Option PolicyRefusal)

@@ -1,9 +1,11 @@
+//! The job of a routine with one secret byte.
 ghost use Rattle.std.specs.Prelude.{◌≡◌, ◌≢◌, ◌≤◌, Some, IfOk, IfErr};
 ghost use Rattle.elf_load.specs.Layout.{FitsMemory, segment_extents};
+ghost use Rattle.ct_pairs.specs.Limits.{IsBound};
 ghost use Rattle.ct_policy.specs.ByteJob.{entry_address, byte_refusal, IsByteJobAt};
 
 use crate::images::startable_image;
-use crate::refusal::PolicyRefusal;
+use ct_document::PolicyRefusal;
 use ct_pairs::{Entry, Job};
 use elf_load::Elf;
 use std::alloc::Global;
@@ -22,8 +24,7 @@ fn entry_address(elf: &Elf, entry: &Entry) -> Option<u32>
 /// The job of one secret byte in a0, with all other registers 0, at a routine of a file.
 pub fn byte_job(alloc: Global, elf: &Elf, entry: &Entry, bound: u32) -> Result<Job, PolicyRefusal>
     requires fits { FitsMemory (segment_extents elf.now) }
-    requires least { 1 ≤ bound }
-    requires most { bound ≤ 100_000 }
+    requires bound { IsBound bound }
     // The entry is an address at which an instruction can be fetched, and the job is the one of one secret byte there.
     ensures job { IfOk result (IsByteJobAt elf.now entry.now bound) }
     // The entry is a name of no symbol, or no instruction can be fetched there, unless memory ran out.

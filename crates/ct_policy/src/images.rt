@@ -1,8 +1,9 @@
+//! Images in which a run can start.
 ghost use Rattle.std.specs.Prelude.{◌≡◌, ◌≢◌, true, false, IfOk, IfErr};
 ghost use Rattle.rv_image.specs.Loading.{CanBuild, cells_of};
 ghost use Rattle.ct_policy.specs.Starting.{can_fetch};
 
-use crate::refusal::PolicyRefusal;
+use ct_document::PolicyRefusal;
 use elf_load::Elf;
 use rv_image::{Image, Span};
 use std::alloc::Global;

@@ -1,25 +1,23 @@
+//! The job of a policy.
 ghost use Rattle.std.specs.Prelude.{◌≡◌, ◌≢◌, ◌≤◌, ◌+◌, ◌^◌, ◌++◌, All, Some, None, true, false, find, map, IfOk, IfErr, OnOk, unwrap_or};
 ghost use Rattle.std.specs.List.{flat_map};
 ghost use Rattle.std.specs.Option.{option_copied};
 ghost use Rattle.elf_load.specs.Layout.{FitsMemory, segment_extents};
 ghost use Rattle.rv_image.specs.Loading.{cells_of};
-ghost use Rattle.ct_policy.specs.declared.refusal.PolicyRefusal.TheVariants.{Memory, Entry};
+ghost use Rattle.ct_document.specs.declared.refusal.PolicyRefusal.TheVariants.{Memory, Entry};
 ghost use Rattle.ct_policy.specs.Job.{IsJobOf};
 ghost use Rattle.ct_policy.specs.Limits.{AreOptions, EndsInMemory};
 ghost use Rattle.ct_policy.specs.Numbers.{word_of, address_word};
 ghost use Rattle.ct_policy.specs.Policy.{is_register, set_value, register_values, extra_spans, input_region, register_bytes, memory_bytes, input_bytes, all_input_bytes};
 ghost use Rattle.ct_policy.specs.Rules.{value_refusal, memory_refusal, can_start};
 
-use crate::address::Address;
+use crate::addresses::address_word;
 use crate::images::startable_image;
-use crate::input::Input;
-use crate::memory_entry::MemoryEntry;
+use crate::memory::memory_span;
 use crate::numbers::word_of;
 use crate::options::Options;
-use crate::policy::Policy;
-use crate::refusal::PolicyRefusal;
-use crate::register::Register;
-use crate::setting::Setting;
+use crate::registers::{is_register, register_number};
+use ct_document::{Address, Input, Policy, PolicyRefusal, Setting};
 use ct_pairs::{InputByte, Job, Place};
 use ct_rows::Row;
 use elf_load::Elf;
@@ -31,7 +29,7 @@ fn words(alloc: Global, addresses: &[Address]) -> Result<Vec<u32>, AllocError>
 {
     addresses
         .iter()
-        .map(|address| address.word())
+        .map(|address| address_word(*address))
         .collect(alloc)
 }
 
@@ -40,7 +38,7 @@ fn setting_of(settings: &[Setting], number: u32) -> Option<&Setting>
 {
     settings
         .iter()
-        .find(|setting| setting.register.is_register(number))
+        .find(|setting| is_register(setting.register, number))
 }
 
 #[tactic(auto, unfolding(crate::specs::Policy::set_value))]
@@ -48,7 +46,7 @@ fn set_value(settings: &[Setting], number: u32) -> u32
     ensures { result ≡ set_value settings.now number }
 {
     match setting_of(settings, number) {
-        Some(setting) => setting.value.word(),
+        Some(setting) => address_word(setting.value),
         None => 0,
     }
 }
@@ -72,7 +70,7 @@ fn extra_spans(alloc: Global, policy: &Policy) -> Result<Vec<Span>, AllocError>
         .memory
         .as_slice()
         .iter()
-        .map(|entry| entry.span())
+        .map(|entry| memory_span(*entry))
         .collect(alloc)
 }
 
@@ -124,14 +122,19 @@ fn push_input(all: &mut Vec<InputByte>, input: Input) -> Result<(), AllocError>
             register,
             bytes,
             kind,
-        } => push_register_bytes(all, register.number(), word_of(bytes), kind.is_secret()),
+        } => push_register_bytes(
+            all,
+            register_number(register),
+            word_of(bytes),
+            kind.is_secret(),
+        ),
         Input::Memory {
             at,
             offset,
             length,
             kind,
         } => {
-            let start = u64::from(at.word()) + u64::from(word_of(offset));
+            let start = u64::from(address_word(at)) + u64::from(word_of(offset));
             push_memory_bytes(all, start, word_of(length), kind.is_secret())
         }
     }
@@ -174,7 +177,7 @@ pub(crate) fn job_of(
         (λ refusal. refusal ≢ Memory → (refusal ≡ Entry) × (can_start elf.now policy.now ≡ false)) }
 {
     let spans = extra_spans(alloc, policy)?;
-    let entry = policy.entry.word();
+    let entry = address_word(policy.entry);
     let image = startable_image(alloc, elf, &spans, entry)?;
     let stops = words(alloc, policy.stops.as_slice())?;
     let registers = register_values(alloc, policy.registers.as_slice())?;

@@ -1,28 +1,24 @@
-//! Policies: from the TOML document that says which bytes are secret, and which public, to the job that it stands for.
+//! Policies: from what a document says to the job that it stands for, by the rules that it has to meet.
 #![tactic(auto)]
 
-mod address;
+mod addresses;
 mod byte_jobs;
 mod images;
-mod input;
+mod inputs;
 mod jobs;
-mod kind;
-mod memory_entry;
+mod limits;
+mod memory;
 mod memory_rules;
 mod numbers;
 mod options;
-mod policy;
 mod reading;
-mod refusal;
 mod region;
-mod register;
-mod setting;
+mod registers;
 #[cfg(test)]
 mod tests;
 mod value_rules;
-mod values;
 
 pub use byte_jobs::byte_job;
+pub use ct_document::PolicyRefusal;
 pub use options::Options;
 pub use reading::read;
-pub use refusal::PolicyRefusal;

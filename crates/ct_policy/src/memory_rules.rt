@@ -1,15 +1,16 @@
+//! The rules on addresses and sizes.
 ghost use Rattle.std.specs.Prelude.{◌≡◌, ◌≤◌, ◌++◌, length, map, IfOk, OnOk};
 ghost use Rattle.elf_load.specs.Layout.{FitsMemory, segment_extents};
 ghost use Rattle.ct_policy.specs.Limits.{HaveWordSizes};
 ghost use Rattle.ct_policy.specs.Policy.{accessible, input_regions, memory_region, segment_region};
 ghost use Rattle.ct_policy.specs.Rules as rules;
 
-use crate::input::Input;
-use crate::memory_entry::MemoryEntry;
-use crate::policy::Policy;
-use crate::refusal::PolicyRefusal;
-use crate::region::{Region, first_outside, first_overlap, fit_memory};
-use elf_load::{Elf, Segment};
+use crate::inputs::{input_region, input_size};
+use crate::memory::memory_region;
+use crate::region::{Region, first_outside, fit_memory};
+use ct_document::{Input, MemoryEntry, Policy, PolicyRefusal};
+use ct_pairs::MOST_INPUTS;
+use elf_load::{Elf, Segment, first_overlap};
 use std::alloc::{AllocError, Global};
 
 fn push_segments(regions: &mut Vec<Region>, segments: &[Segment]) -> Result<(), AllocError>
@@ -30,7 +31,7 @@ fn push_entries(regions: &mut Vec<Region>, entries: &[MemoryEntry]) -> Result<()
     ensures { OnOk result (regions.new.items ≡ regions.old.items ++ map memory_region entries.now) }
 {
     for entry in entries {
-        regions.push(entry.region())?;
+        regions.push(memory_region(*entry))?;
     }
     Ok(())
 }
@@ -56,7 +57,7 @@ fn input_regions(alloc: Global, policy: &Policy) -> Result<Vec<Region>, AllocErr
         .inputs
         .as_slice()
         .iter()
-        .map(|input| input.region())
+        .map(|input| input_region(*input))
         .collect(alloc)
 }
 
@@ -68,9 +69,9 @@ fn are_few(inputs: &[Input]) -> bool
 {
     let mut total: u64 = 0;
     for input in inputs {
-        total += u64::from(input.size());
+        total += u64::from(input_size(*input));
     }
-    total <= 4096
+    total <= u64::from(MOST_INPUTS)
 }
 
 /// The first of the rules P6 to P9 that fails.

@@ -1,3 +1,4 @@
+//! Whole numbers of a policy.
 ghost use Rattle.std.specs.Prelude.{◌≡◌};
 ghost use Rattle.ct_policy.specs.Numbers as numbers;
 

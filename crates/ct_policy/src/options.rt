@@ -1,3 +1,4 @@
+//! What the command line says beside a policy.
 /// What the command line says of a check beside its policy.
 #[derive(Clone, Copy, Debug, PartialEq, Eq)]
 pub struct Options {

@@ -1,7 +1,6 @@
-ghost use Rattle.std.specs.Prelude.{◌≡◌, ◌≢◌, Some, None, IfOk, IfErr};
+//! From the bytes of a policy to its job.
+ghost use Rattle.std.specs.Prelude.{◌≡◌, ◌≢◌, Some, IfOk, IfErr};
 ghost use Rattle.elf_load.specs.Layout.{FitsMemory, segment_extents};
-ghost use Rattle.toml.specs.View.{view};
-ghost use Rattle.ct_policy.specs.Document.{document_of};
 ghost use Rattle.ct_policy.specs.Job.{IsJobOfBytes};
 ghost use Rattle.ct_policy.specs.Limits.{AreOptions};
 ghost use Rattle.ct_policy.specs.Rules.{first_policy_refusal};
@@ -9,31 +8,11 @@ ghost use Rattle.ct_policy.specs.Rules.{first_policy_refusal};
 use crate::jobs::job_of;
 use crate::memory_rules::memory_refusal;
 use crate::options::Options;
-use crate::policy::Policy;
-use crate::refusal::PolicyRefusal;
 use crate::value_rules::value_refusal;
+use ct_document::{Policy, PolicyRefusal, read_document};
 use ct_pairs::Job;
 use elf_load::Elf;
 use std::alloc::Global;
-use toml::Value;
-
-#[tactic(auto, unfolding(crate::specs::Document::document_of))]
-fn read_document(alloc: Global, bytes: &[u8]) -> Result<Value, PolicyRefusal>
-    ensures document { IfOk result (λ document. document_of bytes.now ≡ Some (view document)) }
-    ensures refused { IfErr result
-        (λ refusal. refusal ≢ PolicyRefusal.Memory → (refusal ≡ PolicyRefusal.Toml) × (document_of bytes.now ≡ None)) }
-{
-    match toml::table_from_slice(alloc, bytes) {
-        Ok(table) => Ok(Value::Table(table)),
-        Err(error) => {
-            if error.is_memory() {
-                Err(PolicyRefusal::Memory)
-            } else {
-                Err(PolicyRefusal::Toml)
-            }
-        }
-    }
-}
 
 /// Reads a policy, a TOML document, and answers the job that it stands for in a file, with the options.
 #[tactic(auto, unfolding(crate::specs::Rules::first_policy_refusal))]

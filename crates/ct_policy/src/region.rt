@@ -1,6 +1,9 @@
+//! Ranges of addresses.
 ghost use Rattle.std.specs.Prelude.{◌≡◌, ◌<◌, ◌≤◌, ◌^◌, length, find, position, IfSome};
 ghost use Rattle.std.specs.Option.{option_copied};
 ghost use Rattle.ct_policy.specs.Regions as ranges;
+
+use elf_load::{AddressRange, MEMORY_END, MOST_MEMORY, first_overlap};
 
 /// The addresses of a segment, of a memory entry or of an input: `length` of them from `at + offset` on.
 #[derive(Clone, Copy, Debug, Drop, PartialEq, Eq)]
@@ -11,20 +14,6 @@ pub(crate) struct Region {
 }
 
 impl Region {
-    /// The first address.
-    pub fn start(self) -> u64
-        ensures { result ≡ ranges.start_of self }
-    {
-        u64::from(self.at) + u64::from(self.offset)
-    }
-
-    /// The address after the last one.
-    pub fn end(self) -> u64
-        ensures { result ≡ ranges.end_of self }
-    {
-        u64::from(self.at) + u64::from(self.offset) + u64::from(self.length)
-    }
-
     pub fn holds(self, address: u64) -> bool
         ensures { result ≡ ranges.holds address self }
     {
@@ -39,21 +28,29 @@ impl Region {
         let end = self.end();
         let mut next = self.start();
         while next < end {
-            if next >= 1 << 32 {
+            if next >= MEMORY_END {
                 return false;
             }
             let Some(region) = holder(accessible, next) else {
                 return false;
             };
-            next = region.end().min(1 << 32);
+            next = region.end().min(MEMORY_END);
         }
         true
     }
+}
 
-    pub fn shares_address(self, other: Region) -> bool
-        ensures { result ≡ ranges.share_address self other }
-    {
-        self.start().max(other.start()) < self.end().min(other.end())
+impl AddressRange for Region {
+    ghost first = { ranges.start_of };
+
+    ghost past = { ranges.end_of };
+
+    fn start(&self) -> u64 {
+        u64::from(self.at) + u64::from(self.offset)
+    }
+
+    fn end(&self) -> u64 {
+        u64::from(self.at) + u64::from(self.offset) + u64::from(self.length)
     }
 }
 
@@ -75,29 +72,6 @@ pub(crate) fn first_outside(accessible: &[Region], regions: &[Region]) -> Option
         .position(|region| !region.is_accessible(accessible))
 }
 
-fn first_sharing(region: Region, others: &[Region]) -> Option<usize>
-    ensures first { result ≡ position (ranges.share_address region) others.now }
-    ensures within { IfSome result (λ distance. distance < length others.now) }
-{
-    others
-        .iter()
-        .position(|other| region.shares_address(*other))
-}
-
-/// The first pair of regions that share an address.
-#[tactic(auto, unfolding(crate::specs::Regions::first_overlap))]
-pub(crate) fn first_overlap(regions: &[Region]) -> Option<(usize, usize)>
-    ensures first { result ≡ ranges.first_overlap regions.now }
-    ensures within { IfSome result (λ pair. (pair.0 < length regions.now) × (pair.1 < length regions.now)) }
-{
-    for (index, region) in regions.iter().enumerate() {
-        if let Some(distance) = first_sharing(*region, &regions[index + 1..]) {
-            return Some((index, index + 1 + distance));
-        }
-    }
-    None
-}
-
 /// Whether the regions have at most 2^24 addresses in all.
 fn are_small(regions: &[Region]) -> bool
     ensures { result ≡ ranges.are_small regions.now }
@@ -105,7 +79,7 @@ fn are_small(regions: &[Region]) -> bool
     let mut total: u64 = 0;
     for region in regions {
         total += u64::from(region.length);
-        if total > 1 << 24 {
+        if total > MOST_MEMORY {
             return false;
         }
     }
@@ -115,7 +89,7 @@ fn are_small(regions: &[Region]) -> bool
 fn end_in_memory(regions: &[Region]) -> bool
     ensures { result ≡ ranges.end_in_memory regions.now }
 {
-    regions.iter().all(|region| region.end() <= 1 << 32)
+    regions.iter().all(|region| region.end() <= MEMORY_END)
 }
 
 /// Whether the regions can be memory together.

@@ -1,3 +1,4 @@
+//! Policies, and what is answered of each.
 ghost use Rattle.std.specs.Prelude.{IfOk};
 ghost use Rattle.elf_load.specs.Layout.{FitsMemory, segment_extents};
 

@@ -1,40 +1,41 @@
+//! The rules on names, numbers and registers.
 ghost use Rattle.std.specs.Prelude.{◌≡◌, ◌++◌, map, IfOk, OnOk};
 ghost use Rattle.std.specs.List.{list_all, list_any, filter_map};
 ghost use Rattle.ct_policy.specs.Policy.{named_registers, input_register};
 ghost use Rattle.ct_policy.specs.Rules as rules;
 
-use crate::address::Address;
-use crate::input::Input;
-use crate::memory_entry::MemoryEntry;
+use crate::addresses::{is_address, is_known};
+use crate::inputs::{input_is_known, input_is_within, input_register};
+use crate::limits::MOST_ITEMS;
+use crate::memory::memory_is_within;
 use crate::numbers::is_within;
-use crate::policy::Policy;
-use crate::refusal::PolicyRefusal;
-use crate::register::Register;
-use crate::setting::Setting;
+use crate::registers::{is_settable, same_register};
+use ct_document::{Address, Input, MemoryEntry, Policy, PolicyRefusal, Register, Setting};
+use ct_pairs::MOST_BOUND;
 use std::alloc::{AllocError, Global};
 
 fn are_known(addresses: &[Address]) -> bool
     ensures { result ≡ list_all rules.is_known addresses.now }
 {
-    addresses.iter().all(|address| address.is_known())
+    addresses.iter().all(|address| is_known(*address))
 }
 
 fn settings_are_known(settings: &[Setting]) -> bool
     ensures { result ≡ list_all (λ setting. rules.is_known setting.value) settings.now }
 {
-    settings.iter().all(|setting| setting.value.is_known())
+    settings.iter().all(|setting| is_known(setting.value))
 }
 
 fn entries_are_known(entries: &[MemoryEntry]) -> bool
     ensures { result ≡ list_all (λ entry. rules.is_known entry.at) entries.now }
 {
-    entries.iter().all(|entry| entry.at.is_known())
+    entries.iter().all(|entry| is_known(entry.at))
 }
 
 fn inputs_are_known(inputs: &[Input]) -> bool
     ensures { result ≡ list_all rules.input_is_known inputs.now }
 {
-    inputs.iter().all(|input| input.is_known())
+    inputs.iter().all(|input| input_is_known(*input))
 }
 
 /// P3: whether each text in the place of an address names a symbol.
@@ -42,7 +43,7 @@ fn inputs_are_known(inputs: &[Input]) -> bool
 fn names_are_known(policy: &Policy) -> bool
     ensures { result ≡ rules.names_are_known policy.now }
 {
-    policy.entry.is_known()
+    is_known(policy.entry)
         && are_known(policy.stops.as_slice())
         && settings_are_known(policy.registers.as_slice())
         && entries_are_known(policy.memory.as_slice())
@@ -52,25 +53,25 @@ fn names_are_known(policy: &Policy) -> bool
 fn are_addresses(addresses: &[Address]) -> bool
     ensures { result ≡ list_all rules.is_address addresses.now }
 {
-    addresses.iter().all(|address| address.is_address())
+    addresses.iter().all(|address| is_address(*address))
 }
 
 fn settings_are_within(settings: &[Setting]) -> bool
     ensures { result ≡ list_all (λ setting. rules.is_address setting.value) settings.now }
 {
-    settings.iter().all(|setting| setting.value.is_address())
+    settings.iter().all(|setting| is_address(setting.value))
 }
 
 fn entries_are_within(entries: &[MemoryEntry]) -> bool
     ensures { result ≡ list_all rules.memory_is_within entries.now }
 {
-    entries.iter().all(|entry| entry.is_within())
+    entries.iter().all(|entry| memory_is_within(*entry))
 }
 
 fn inputs_are_within(inputs: &[Input]) -> bool
     ensures { result ≡ list_all rules.input_is_within inputs.now }
 {
-    inputs.iter().all(|input| input.is_within())
+    inputs.iter().all(|input| input_is_within(*input))
 }
 
 /// P4: whether each number is in its range, and no list is too long.
@@ -79,14 +80,14 @@ fn numbers_are_within(policy: &Policy) -> bool
     ensures { result ≡ rules.numbers_are_within policy.now }
 {
     is_within(policy.format, 1, 1)
-        && policy.entry.is_address()
-        && policy.stops.len() <= 64
+        && is_address(policy.entry)
+        && policy.stops.len() <= MOST_ITEMS
         && are_addresses(policy.stops.as_slice())
-        && is_within(policy.bound, 1, 100_000)
+        && is_within(policy.bound, 1, MOST_BOUND)
         && settings_are_within(policy.registers.as_slice())
-        && policy.memory.len() <= 64
+        && policy.memory.len() <= MOST_ITEMS
         && entries_are_within(policy.memory.as_slice())
-        && policy.inputs.len() <= 64
+        && policy.inputs.len() <= MOST_ITEMS
         && inputs_are_within(policy.inputs.as_slice())
 }
 
@@ -109,7 +110,7 @@ fn push_registers_of_inputs(
     ensures { OnOk result (registers.new.items ≡ registers.old.items ++ filter_map input_register inputs.now) }
 {
     for input in inputs {
-        if let Some(register) = input.register() {
+        if let Some(register) = input_register(*input) {
             registers.push(register)?;
         }
     }
@@ -130,13 +131,13 @@ fn named_registers(alloc: Global, policy: &Policy) -> Result<Vec<Register>, Allo
 fn is_among(register: Register, others: &[Register]) -> bool
     ensures { result ≡ list_any (rules.same_register register) others.now }
 {
-    others.iter().any(|other| register.is_same(*other))
+    others.iter().any(|other| same_register(register, *other))
 }
 
 fn is_once(register: Register, others: &[Register]) -> bool
     ensures { result ≡ rules.is_once register others.now }
 {
-    register.is_settable() && !is_among(register, others)
+    is_settable(register) && !is_among(register, others)
 }
 
 /// P5: whether each is one of the registers x1 to x31, and none stands twice.

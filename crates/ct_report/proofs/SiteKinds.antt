@@ -18,10 +18,10 @@ use Rattle.rv_machine.proofs.StepLaws.{step_of_live, seen_pc, seen_live}
 use Rattle.rv_machine.proofs.TrailLaws.{length_going}
 use Rattle.ct_pairs.specs.declared.job.Job.{Job}
 use Rattle.ct_pairs.specs.declared.pair.Pair.{Pair}
-use Rattle.ct_pairs.specs.declared.byte_table.ByteTable.{ByteTable}
+use Rattle.ct_pairs.specs.declared.found.Found.{Found}
 use Rattle.ct_pairs.specs.Pair.{left_start, right_start}
 use Rattle.ct_pairs.specs.Split.{SplitsAt}
-use Rattle.ct_pairs.specs.Covered.{CoversPairs}
+use Rattle.ct_pairs.specs.Covered.{AreTrueSites}
 use Rattle.ct_pairs.proofs.TrailLemmas.{FirstSplit-one_pc}
 use Rattle.ct_pairs.proofs.StartLemmas.{starts_aligned}
 use Rattle.ct_report.specs.declared.kind.Kind.{Kind}
@@ -137,5 +137,5 @@ split_has_kind job pair site at h =
     (sym left_pc ∙ one_pc ∙ right_pc) (sym (ap (λ pc. option_and_then kind_of (instruction_at job.image pc)) here) ∙ none)
     ∙ right)))
 
-pub sites_have_kinds : (job : Job) (table : ByteTable) → CoversPairs job table.sites → SitesHaveKinds job table
-sites_have_kinds job table h = All-weaker _ _ (λ found splits. split_has_kind job found.pair found.site found.step splits) table.sites h.each
+pub sites_have_kinds : (job : Job) (sites : List Found) → AreTrueSites job sites → SitesHaveKinds job sites
+sites_have_kinds job sites each = All-weaker _ _ (λ found splits. split_has_kind job found.pair found.site found.step splits) sites each

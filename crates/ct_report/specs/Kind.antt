@@ -2,7 +2,7 @@
 use Rattle.std.specs.Prelude.{ℕ, List, Option, Some, None, codes}
 use Rattle.std.specs.Option.{IsSome, option_and_then}
 use Rattle.rv_decode.specs.declared.instr.Instr.{Instr}
-use Rattle.rv_decode.specs.declared.instr.Instr.TheVariants.{Lui, Auipc, Jal, Jalr, Branch, Load, Store, OpImm, Op, Fence, Call, Break}
+use Rattle.rv_decode.specs.declared.instr.Instr.TheVariants.{Jal, Jalr, Branch, Load, Store}
 use Rattle.rv_decode.specs.Instructions.{instruction_of}
 use Rattle.rv_image.specs.Cell.{Cell}
 use Rattle.rv_image.specs.Image.{fetch_at}
@@ -16,13 +16,7 @@ kind_of (Store rs1 rs2 offset bytes) = Some kinds.Store
 kind_of (Branch cond rs1 rs2 offset) = Some kinds.Branch
 kind_of (Jal rd offset) = Some kinds.Jump
 kind_of (Jalr rd rs1 offset) = Some kinds.Jump
-kind_of (Lui rd imm) = None
-kind_of (Auipc rd imm) = None
-kind_of (OpImm op rd rs1 imm) = None
-kind_of (Op op rd rs1 rs2) = None
-kind_of (Fence word) = None
-kind_of Call = None
-kind_of Break = None
+kind_of _ = None
 
 -- the word of a kind
 abbrev pub kind_name : Kind → List ℕ

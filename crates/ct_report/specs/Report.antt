@@ -7,16 +7,17 @@ use Rattle.rv_image.specs.Cell.{Cell}
 use Rattle.ct_pairs.specs.declared.job.Job.{Job}
 use Rattle.ct_pairs.specs.declared.found.Found.{Found}
 use Rattle.ct_pairs.specs.declared.byte_table.ByteTable.{ByteTable}
+use Rattle.ct_report.specs.declared.outcome.Outcome.{Outcome}
 use Rattle.ct_report.specs.declared.finding.Finding.{Finding}
 use Rattle.ct_report.specs.declared.finding.Finding.TheVariants.{Secure, Insecure}
 use Rattle.rv_decode.specs.Text.{address_text, text_value}
-use Rattle.ct_report.specs.Digits.{bytes_text}
+use Rattle.ct_texts.specs.Bytes.{bytes_text}
 use Rattle.ct_report.specs.Kind.{kind_of, kind_name, instruction_at, HasKind}
 use Rattle.ct_rows.specs.Lines.{line}
 
 -- a routine is secure where no site was found
-abbrev pub finding_of : ByteTable → Finding
-finding_of table = of_sites table.sites where
+abbrev pub finding_of : Outcome → Finding
+finding_of outcome = of_sites outcome.sites where
   of_sites : List Found → Finding
   of_sites [] = Secure
   of_sites (found ∷ sites) = Insecure
@@ -26,9 +27,13 @@ abbrev pub finding_name : Finding → List ℕ
 finding_name Secure = codes "secure"
 finding_name Insecure = codes "insecure"
 
--- the image has at each site of the table an instruction with a kind
-abbrev pub SitesHaveKinds : Job → ByteTable → Type 0
-SitesHaveKinds job table = All (λ found. HasKind job.image found.site) table.sites
+-- the outcome of a check of all pairs, which leaves nothing open
+abbrev pub outcome_of : ByteTable → Outcome
+outcome_of table = record { sites = table.sites; doubts = 0; paths = table.paths }
+
+-- the image has at each site an instruction with a kind
+abbrev pub SitesHaveKinds : Job → List Found → Type 0
+SitesHaveKinds job sites = All (λ found. HasKind job.image found.site) sites
 
 -- the kind and the text of the instruction at an address
 abbrev pub instruction_text : List Cell → ℕ → List ℕ
@@ -51,13 +56,13 @@ site_lines image found =
     ++ line (codes "right " ++ bytes_text found.pair.right)
 
 -- the whole report
-unfoldable pub report_of : Job → ByteTable → List ℕ
-report_of job table =
+unfoldable pub report_of : Job → Outcome → List ℕ
+report_of job outcome =
     line (codes "ctrel report 1")
-    ++ line (codes "verdict " ++ finding_name (finding_of table))
+    ++ line (codes "verdict " ++ finding_name (finding_of outcome))
     ++ line (codes "bound " ++ decimal job.bound)
-    ++ line (codes "paths " ++ decimal table.paths)
-    ++ line (codes "doubts 0")
-    ++ line (codes "sites " ++ decimal (length table.sites))
-    ++ flat_map (site_lines job.image) table.sites
+    ++ line (codes "paths " ++ decimal outcome.paths)
+    ++ line (codes "doubts " ++ decimal outcome.doubts)
+    ++ line (codes "sites " ++ decimal (length outcome.sites))
+    ++ flat_map (site_lines job.image) outcome.sites
     ++ line (codes "places 0")

@@ -1,3 +1,4 @@
+//! What a check says of a routine.
 ghost use Rattle.std.specs.Prelude.{◌≡◌};
 
 /// What a check says of a routine, up to its bound.

@@ -1,3 +1,4 @@
+//! What an instruction does that an observer can see.
 ghost use Rattle.std.specs.Prelude.{◌≡◌};
 
 use rv_decode::Instr;

@@ -1,20 +1,19 @@
 //! The report of a check: what it found, as a text of lines.
 #![tactic(auto)]
 
-mod digits;
 mod finding;
 mod kind;
 mod laws;
 mod lines;
+mod outcome;
 mod report;
 mod site;
-mod verdict;
 
 pub use finding::Finding;
 pub use kind::Kind;
-pub use laws::{site_law, table_law};
+pub use laws::{site_law, sites_law};
+pub use outcome::Outcome;
 pub use report::{can_report, report_text};
-pub use verdict::verdict_of;
 
 #[cfg(test)]
 mod tests;

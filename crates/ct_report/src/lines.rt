@@ -1,15 +1,16 @@
+//! Lines of the report.
 ghost use Rattle.std.specs.Prelude.{◌≡◌, ◌++◌, codes, decimal};
 ghost use Rattle.std.specs.Result.{OnOk};
 ghost use Rattle.std.specs.String.{string_bytes};
-ghost use Rattle.ct_report.specs.Digits.{bytes_text};
+ghost use Rattle.ct_texts.specs.Bytes.{bytes_text};
 ghost use Rattle.ct_rows.specs.Lines.{line};
 
-use crate::digits::push_bytes;
+use ct_texts::push_bytes;
 use std::alloc::AllocError;
 use std::fmt::Write;
 
 /// Appends a line of a word and a number.
-pub fn push_number_line(text: &mut String, name: &str, number: u64) -> Result<(), AllocError>
+pub fn push_number_line(text: &mut String, name: &str, number: u128) -> Result<(), AllocError>
     ensures { OnOk result (string_bytes text.new ≡ string_bytes text.old ++ line (name.now ++ codes " " ++ decimal number)) }
 {
     writeln!(text, "{name} {number}")

@@ -1,7 +1,8 @@
+//! Reports of small tables.
 ghost use Rattle.std.specs.Prelude.{◌≤◌, length};
 
-use crate::{Finding, can_report, report_text, verdict_of};
-use ct_pairs::{ByteTable, Found, Job, Pair, byte_job};
+use crate::{Finding, Outcome, can_report, report_text};
+use ct_pairs::{Found, Job, Pair, byte_job};
 use ct_rows::Row;
 use elf_load::{Elf, Segment};
 use rv_image::Image;
@@ -58,17 +59,18 @@ fn assert_report(
     alloc: Global,
     job: &Job,
     sites: Vec<Found>,
-    paths: u64,
+    (paths, doubts): (u128, u128),
     finding: Finding,
     report: &str,
 ) -> Result<(), Fail> {
-    let table = ByteTable {
+    let outcome = Outcome {
         sites: Row::from_vec(sites),
+        doubts,
         paths,
     };
-    assert_eq!(rt; verdict_of(&table), finding);
-    assert!(rt; can_report(job, &table));
-    let text = report_text(alloc, job, &table)?;
+    assert_eq!(rt; outcome.verdict(), finding);
+    assert!(rt; can_report(job, outcome.sites.as_slice()));
+    let text = report_text(alloc, job, &outcome)?;
     assert_eq!(rt; text.as_str(), report);
     Ok(())
 }
@@ -92,7 +94,7 @@ fn reports(rt: HostRuntime) -> Result<(), Fail> {
         alloc,
         &job(alloc, &RETURN, 10)?,
         Vec::new(alloc),
-        1,
+        (1, 0),
         Finding::Secure,
         "ctrel report 1\nverdict secure\nbound 10\npaths 1\ndoubts 0\nsites 0\nplaces 0\n",
     )?;
@@ -101,7 +103,7 @@ fn reports(rt: HostRuntime) -> Result<(), Fail> {
         alloc,
         &job(alloc, &BRANCH, 10)?,
         vec![in alloc; found(alloc, 0x0001_0054, 1, &[], &[0], &[1])?]?,
-        2,
+        (2, 0),
         Finding::Insecure,
         "ctrel report 1\nverdict insecure\nbound 10\npaths 2\ndoubts 0\nsites 1\n\
          site 0x00010054 step 1 branch beq a0, zero, 0x0001005c\nshared -\nleft 00\nright 01\nplaces 0\n",
@@ -111,7 +113,7 @@ fn reports(rt: HostRuntime) -> Result<(), Fail> {
         alloc,
         &job(alloc, &LOAD, 10)?,
         vec![in alloc; found(alloc, 0x0001_0054, 1, &[], &[0], &[1])?]?,
-        1,
+        (1, 0),
         Finding::Insecure,
         "ctrel report 1\nverdict insecure\nbound 10\npaths 1\ndoubts 0\nsites 1\n\
          site 0x00010054 step 1 load lbu a0, 0(a0)\nshared -\nleft 00\nright 01\nplaces 0\n",
@@ -123,9 +125,9 @@ fn reports(rt: HostRuntime) -> Result<(), Fail> {
         alloc,
         &job(alloc, &STORE, 100)?,
         vec![in alloc; first, second]?,
-        18_446_744_073_709_551_615,
+        (340_282_366_920_938_463_463_374_607_431_768_211_455, 7),
         Finding::Insecure,
-        "ctrel report 1\nverdict insecure\nbound 100\npaths 18446744073709551615\ndoubts 0\nsites 2\n\
+        "ctrel report 1\nverdict insecure\nbound 100\npaths 340282366920938463463374607431768211455\ndoubts 7\nsites 2\n\
          site 0x00010054 step 12 store sw a1, -4(a0)\nshared 07ff\nleft a0\nright 9b\n\
          site 0x00010058 step 3 jump jalr zero, 0(ra)\nshared 10\nleft -\nright -\nplaces 0\n",
     )

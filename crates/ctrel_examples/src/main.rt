@@ -1,23 +1,14 @@
-//! Runs the program on each compiled example, one command after another.
+//! Runs the program on examples, one command after another, and shows what it writes, what it says on standard error, and its status.
 #![tactic(auto)]
 
-use ct_main::ctrel;
+mod commands;
+mod faults;
+
+use ct_main::{Finished, ctrel, tell};
 use ct_outside::{RealShelf, RealSink};
 use std::alloc::{AllocError, Global};
 use std::io;
 use std::process::ExitCode;
-
-const COMMANDS: [&str; 9] = [
-    "byte decode_table.elf 0x10000 100",
-    "byte decode_branch.elf 0x10000 100",
-    "byte decode_constant.elf 0x10000 100",
-    "list decode_constant.elf",
-    "trace decode_table.elf 0x10000 10",
-    "byte decode_branch.elf decode_digit 100",
-    "check decode_table.elf decode_table.toml",
-    "check decode_constant.elf decode_constant.toml",
-    "check decode_memory.elf decode_memory.toml",
-];
 
 /// The words of a command.
 fn words_of(alloc: Global, command: &str) -> Result<Vec<String>, AllocError> {
@@ -28,22 +19,35 @@ fn words_of(alloc: Global, command: &str) -> Result<Vec<String>, AllocError> {
     Ok(words)
 }
 
-/// Runs a command over the real files and the real output; shows it before and its status after.
+/// Shows what a call says on standard error, here on the output, and its status.
+fn show_end(rt: &HostRuntime, finished: &Finished) -> io::Result<()> {
+    tell(rt.alloc(), finished, &mut RealSink::new(rt));
+    println!(rt; "status {}", finished.status)
+}
+
+/// Runs a command over the real files and the real output.
 fn run(rt: &HostRuntime, command: &str) -> io::Result<()> {
     println!(rt; "$ ctrel {command}")?;
     let words = words_of(rt.alloc(), command)?;
     let mut shelf = RealShelf::new(rt.alloc(), rt)?;
-    let mut out = RealSink::new(rt);
-    let finished = ctrel(rt.alloc(), words.as_slice(), &mut shelf, &mut out);
-    println!(rt; "status {}", finished.status)
+    let finished = ctrel(
+        rt.alloc(),
+        words.as_slice(),
+        &mut shelf,
+        &mut RealSink::new(rt),
+    );
+    show_end(rt, &finished)
 }
 
 /// Runs all commands.
 fn run_all(rt: &HostRuntime) -> io::Result<()> {
-    for command in COMMANDS {
+    for command in commands::WRITTEN {
         run(rt, command)?;
     }
-    Ok(())
+    for command in commands::REFUSED {
+        run(rt, command)?;
+    }
+    faults::run_all(rt)
 }
 
 fn main(rt: HostRuntime) -> ExitCode {

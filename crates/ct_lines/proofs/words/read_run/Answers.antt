@@ -2,6 +2,7 @@ use Rattle.std.proofs.Common.{◌≡◌, arith, None, Some, map, inl, inr, refl}
 use Rattle.std.proofs.lemmas.List.{length-map}
 use Rattle.std.proofs.lemmas.Result.{err_from_is_err_and}
 use Rattle.std.specs.String.{string_bytes}
+use Rattle.ct_pairs.specs.Limits.{most_bound}
 use Rattle.ct_lines.specs.Commands.{run_from, run_of}
 use Rattle.ct_lines.specs.Words.{number_of, entry_of, name_of}
 use Rattle.ct_lines.proofs.CommandLemmas.{run_of-other, run_from-none, three_items}
@@ -22,10 +23,10 @@ pub returns-in_err-entry-clause-refused : goal.returns-in_err-entry-clause-refus
 returns-in_err-entry-clause-refused c =
     let words = three_items c.args.words.now _ _ _ (omega arith) c.binary-item.is c.entry-item.is c.bound-item.is in
     let entry = entry_of c.as_str-3.result.now in
-    let read : run_of (map string_bytes c.args.words.now) ≡ run_from (name_of c.as_str.result.now) (number_of 1 100_000 c.as_str-2.result.now) entry =
+    let read : run_of (map string_bytes c.args.words.now) ≡ run_from (name_of c.as_str.result.now) (number_of 1 most_bound c.as_str-2.result.now) entry =
     rw (words, c.as_str.ensures.value, c.as_str-2.ensures.value, c.as_str-3.ensures.value) refl in
     let name : name_of c.as_str.result.now ≡ Some c.in_ok-name.name.now = grind arith in
-    let bound : number_of 1 100_000 c.as_str-2.result.now ≡ Some c.in_ok-bound.bound = grind arith in
+    let bound : number_of 1 most_bound c.as_str-2.result.now ≡ Some c.in_ok-bound.bound = grind arith in
     let p = err_from_is_err_and c.from_residual-in_err-entry.result c.from_residual-in_err-entry.ensures.1 in
     rw (p.1, p.2, read, name, bound) (
       λ e. let none : entry ≡ None = c.in_err-entry.ensures.refused.0 cc in rw none refl,

@@ -18,7 +18,7 @@ unfolding can_start
 returns-in_err-image-clause-refused c =
     let given = err_from_is_err_and c.from_residual-in_err-image.result c.from_residual-in_err-image.ensures.1 in
     let spans = c.deref.ensures.value ∙ c.in_ok-spans.ensures in
-    rw (given.1, given.2) (λ other. rw (spans, c.word-entry.ensures) at (c.in_err-image.ensures.refused other))
+    rw (given.1, given.2) (λ other. rw (spans, c.address_word-entry.ensures) at (c.in_err-image.ensures.refused other))
 
 pub all_input_bytes-requires : goal.all_input_bytes-requires
 all_input_bytes-requires c =
@@ -40,10 +40,10 @@ unfolding can_start
 returns-clause-job c =
     let elf = c.args.elf.now in
     let spans = c.deref.ensures.value ∙ c.in_ok-spans.ensures in (
-      rw (spans, c.word-entry.ensures) at c.in_ok-image.ensures.starts,
+      rw (spans, c.address_word-entry.ensures) at c.in_ok-image.ensures.starts,
       record {
         image = c.in_ok-image.ensures.image ∙ ap (cells_of elf) spans;
-        entry = c.word-entry.ensures;
+        entry = c.address_word-entry.ensures;
         stops = rw c.as_slice.ensures at (c.from_vec.ensures ∙ c.in_ok-stops.ensures);
         registers = rw c.as_slice-2.ensures at (c.from_vec-2.ensures ∙ c.in_ok-registers.ensures);
         inputs = rw c.as_slice-3.ensures at (c.from_vec-3.ensures ∙ c.in_ok-inputs.ensures);

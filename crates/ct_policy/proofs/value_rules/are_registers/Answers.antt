@@ -1,6 +1,6 @@
 use Rattle.std.proofs.Common.{sym, refl, ◌+◌, ◌∙◌, arith}
 use Rattle.std.proofs.lemmas.List.{take_rest}
-use Rattle.ct_policy.specs.declared.register.Register.TheVariants.{Number}
+use Rattle.ct_document.specs.declared.register.Register.TheVariants.{Number}
 use Rattle.ct_policy.proofs.RegisterLemmas.{are_registers-drop, are_registers-end}
 use Rattle.ct_policy.proofs.value_rules.are_registers.Goals as goal
 

@@ -1,0 +1,5 @@
+pub mod Document
+pub mod Keys
+pub mod Reads
+pub mod Registers
+pub mod Values

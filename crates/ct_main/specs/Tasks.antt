@@ -1,0 +1,109 @@
+-- What remains to be done of a command once its files have passed, and what comes of it.
+use Rattle.std.specs.Prelude.{◌≡◌, ◌⊎◌, ◌∷◌, ◌++◌, ℕ, List, [], Option, None, Some, IfSome, IfOk, IsSomeAnd, Result, Ok, Err, MatchResult}
+use Rattle.std.specs.declared.alloc.AllocError.{AllocError}
+use Rattle.elf_load.specs.Layout.{FitsMemory, segment_extents}
+use Rattle.rv_image.specs.Loading.{cells_of}
+use Rattle.ct_outside.specs.declared.reading.ReadEnd.{ReadEnd}
+use Rattle.ct_outside.specs.declared.reading.ReadEnd.TheVariants as ends
+use Rattle.ct_lines.specs.declared.command.Command.{Command}
+use Rattle.ct_lines.specs.declared.command.Command.TheVariants.{Byte, Check, Trace, List as Listing}
+use Rattle.ct_pairs.specs.declared.job.Job.{Job}
+use Rattle.ct_pairs.specs.Inputs.{public_count, secret_count}
+use Rattle.ct_report.specs.Report.{report_of}
+use Rattle.ct_listing.specs.Trace.{trace_of}
+use Rattle.ct_listing.specs.List.{list_of}
+use Rattle.ct_main.specs.declared.refusal.Refusal.{Refusal}
+use Rattle.ct_report.specs.declared.outcome.Outcome.{Outcome}
+use Rattle.ct_main.specs.declared.refusal.Refusal.TheVariants.{Memory, WriteFault}
+use Rattle.ct_main.specs.declared.task.Task.{Task}
+use Rattle.ct_main.specs.declared.task.Task.TheVariants as tasks
+use Rattle.ct_main.specs.declared.made.Made.{Made}
+use Rattle.ct_main.specs.Outside.{Reading, Writing, AskedNothing, WasRead, WasLong, WasCutOff, WroteNothing, WroteWhole, WroteFront}
+use Rattle.ct_main.specs.Phases.{Phase, phases_of, program_of}
+use Rattle.ct_main.specs.Reads.{Accepted, EndsPhases, EndsCommand}
+use Rattle.ct_main.specs.Outcomes.{IsOutcomeOf}
+use Rattle.ct_main.specs.Texts.{IsJobFor}
+use Rattle.ct_main.specs.Causes.{Refuses}
+
+-- the shelf was asked for this name, and for no other
+abbrev pub AskedForName : Reading → List ℕ → Type 0
+AskedForName reading name = reading.asked ≡ reading.asked_before ++ name ∷ []
+
+-- the file of a name was begun and read whole as these bytes
+pub record IsRead (reading : Reading) (name bytes : List ℕ) : Type 0 where
+  pub asks : AskedForName reading name
+  pub read : WasRead reading name bytes
+
+-- why the file of a name wasn't read whole
+abbrev pub IsUnread : Reading → List ℕ → ReadEnd → Type 0
+IsUnread reading name ends.Memory = AskedNothing reading ⊎ AskedForName reading name
+IsUnread reading name ends.Fault = AskedForName reading name × WasCutOff reading
+IsUnread reading name ends.Long = AskedForName reading name × WasLong reading name
+
+-- all phases passed, and this is said of what their files hold
+pub record PassedWith (reading : Reading) (phases : List Phase) (Says : List (List ℕ) → Type 0) : Type 0 where
+  pub contents : List (List ℕ)
+  pub accepted : Accepted reading phases contents
+  pub says : Says contents
+
+-- phases give what their files stand for, or have the refusal of one of them
+abbrev pub Gives : {T : Type 0} → Reading → List Phase → (List (List ℕ) → T → Type 0) → Result T Refusal → Type 0
+Gives reading phases Says result =
+    MatchResult result (λ made. PassedWith reading phases (λ contents. Says contents made)) (EndsPhases reading phases)
+
+-- the job has one input byte, a secret one
+pub record HasOneSecret (job : Job) : Type 0 where
+  pub public : public_count job.inputs ≡ 0
+  pub secret : secret_count job.inputs ≡ 1
+
+-- what a task needs
+abbrev pub CanDo : Task → Type 0
+CanDo (tasks.Check job) = HasOneSecret job
+CanDo (tasks.Trace job) = HasOneSecret job
+CanDo (tasks.List elf) = FitsMemory (segment_extents elf)
+
+-- the task of a command and of what its files hold
+abbrev pub IsTaskOf : Command → List (List ℕ) → Task → Type 0
+IsTaskOf (Byte binary entry bound) contents (tasks.Check job) = IsJobFor (Byte binary entry bound) contents job
+IsTaskOf (Check binary policy bound workers budget targets) contents (tasks.Check job) =
+    IsJobFor (Check binary policy bound workers budget targets) contents job
+IsTaskOf (Trace binary entry bound) contents (tasks.Trace job) = IsJobFor (Trace binary entry bound) contents job
+IsTaskOf (Listing binary) contents (tasks.List elf) = elf ≡ program_of contents
+IsTaskOf _ contents _ = ⊥
+
+-- the command is built, its files have passed, and this is what remains to be done
+pub record IsPrepared (reading : Reading) (command : Command) (task : Task) : Type 0 where
+  pub phases : List Phase
+  pub built : phases_of command ≡ Some phases
+  pub passed : PassedWith reading phases (λ contents. IsTaskOf command contents task)
+
+-- the task of a command, or why there is none
+abbrev pub Prepares : Reading → Command → Result Task Refusal → Type 0
+Prepares reading command result = MatchResult result (IsPrepared reading command) (EndsCommand reading (phases_of command))
+
+-- what came of a task: the outcome of a check, and the whole text, unless memory was wanted
+abbrev pub IsDone : Task → Made → Type 0
+IsDone (tasks.Check job) made =
+    IfSome made.outcome (IsOutcomeOf job) × IfOk made.text (λ text. IsSomeAnd made.outcome (λ outcome. text ≡ report_of job outcome))
+IsDone (tasks.Trace job) made = (made.outcome ≡ None) × IfOk made.text (λ text. text ≡ trace_of job)
+IsDone (tasks.List elf) made = (made.outcome ≡ None) × IfOk made.text (λ text. text ≡ list_of (cells_of elf []))
+
+-- the task of the words and their files, or why there is none
+abbrev pub Finds : Option Command → Reading → Result Task Refusal → Type 0
+Finds words reading result = MatchResult result
+    (λ task. IsSomeAnd words (λ command. IsPrepared reading command task))
+    (Refuses words reading)
+
+-- what was written of a text that was made: all of it, or a front; nothing where there was no memory for it
+abbrev pub WroteMade : Writing → Result (List ℕ) AllocError → Option Refusal → Type 0
+WroteMade writing (Ok text) None = WroteWhole writing text
+WroteMade writing (Ok text) (Some refusal) = (refusal ≡ WriteFault) × WroteFront writing text
+WroteMade writing (Err error) None = ⊥
+WroteMade writing (Err error) (Some refusal) = (refusal ≡ Memory) × WroteNothing writing
+
+-- a task was done and its text written
+pub record IsDelivered (task : Task) (writing : Writing) (outcome : Option Outcome) (refusal : Option Refusal) : Type 0 where
+  pub made : Made
+  pub done : IsDone task made
+  pub outcome_is : outcome ≡ made.outcome
+  pub wrote : WroteMade writing made.text refusal

@@ -1,0 +1,131 @@
+//! The phases of a command: its files are read one after another, each is held against its rules, and what remains is a task.
+
+ghost use Rattle.std.specs.Prelude.{◌≡◌, ◌≤◌, ◌∷◌, [], length, IfOk};
+ghost use Rattle.elf_load.specs.Layout.{FitsMemory, segment_extents};
+ghost use Rattle.ct_pairs.specs.Limits.{IsBound};
+ghost use Rattle.ct_lines.specs.Commands.{AreWithinLimits};
+ghost use Rattle.ct_policy.specs.ByteJob.{IsByteJobAt};
+ghost use Rattle.ct_policy.specs.Job.{IsJobOfBytes};
+ghost use Rattle.ct_policy.specs.Limits.{AreOptions};
+ghost use Rattle.ct_main.specs.Outside.{read_of};
+ghost use Rattle.ct_main.specs.Phases.{executable_rules, routine_rules, policy_rules, program_of, policy_bytes, is_one_secret as is_one_secret_list};
+ghost use Rattle.ct_main.specs.Tasks.{Gives, HasOneSecret, CanDo, Prepares};
+
+use crate::files::{load_file, read_file};
+use crate::program::ASKED_BEFORE;
+use crate::refusal::Refusal;
+use crate::task::Task;
+use ct_lines::Command;
+use ct_outside::Shelf;
+use ct_pairs::{Entry, InputByte, Job};
+use ct_policy::{Options, byte_job, read};
+use ct_rows::Text;
+use elf_load::Elf;
+use std::alloc::Global;
+
+/// Whether there is one input byte, a secret one.
+fn is_one_secret(inputs: &[InputByte]) -> bool
+    ensures { result ≡ is_one_secret_list inputs.now }
+{
+    match inputs {
+        [input] => input.secret,
+        _ => false,
+    }
+}
+
+/// The job of a routine of one secret byte.
+fn routine_job<F: Shelf>(
+    alloc: Global,
+    shelf: &mut F,
+    binary: &Text,
+    entry: &Entry,
+    bound: u32,
+) -> Result<Job, Refusal>
+    requires room { length (F.asked shelf.old) ≤ ASKED_BEFORE }
+    requires bound { IsBound bound }
+    ensures job { Gives
+        (read_of F.files F.asked F.given F.faults shelf.old shelf.new)
+        ((binary.now, routine_rules entry.now) ∷ [])
+        (λ contents job. IsByteJobAt (program_of contents) entry.now bound job) result }
+    ensures one_secret { IfOk result HasOneSecret }
+{
+    let elf = load_file(alloc, read_file(alloc, shelf, binary)?)?;
+    Ok(byte_job(alloc, &elf, entry, bound)?)
+}
+
+/// The job of a policy of one secret byte.
+fn policy_job<F: Shelf>(
+    alloc: Global,
+    shelf: &mut F,
+    binary: &Text,
+    policy: &Text,
+    options: &Options,
+) -> Result<Job, Refusal>
+    requires room { length (F.asked shelf.old) ≤ ASKED_BEFORE }
+    requires options { AreOptions options.now }
+    ensures job { Gives
+        (read_of F.files F.asked F.given F.faults shelf.old shelf.new)
+        ((binary.now, executable_rules) ∷ (policy.now, policy_rules) ∷ [])
+        (λ contents job. IsJobOfBytes (program_of contents) options.now (policy_bytes contents) job) result }
+    ensures one_secret { IfOk result HasOneSecret }
+{
+    let elf = load_file(alloc, read_file(alloc, shelf, binary)?)?;
+    let bytes = read_file(alloc, shelf, policy)?;
+    let job = read(alloc, bytes.as_slice(), &elf, options)?;
+    if !is_one_secret(job.inputs.as_slice()) {
+        return Err(Refusal::Later);
+    }
+    Ok(job)
+}
+
+/// The executable of a file.
+fn executable<F: Shelf>(alloc: Global, shelf: &mut F, binary: &Text) -> Result<Elf, Refusal>
+    requires room { length (F.asked shelf.old) ≤ ASKED_BEFORE }
+    ensures elf { Gives
+        (read_of F.files F.asked F.given F.faults shelf.old shelf.new)
+        ((binary.now, executable_rules) ∷ [])
+        (λ contents elf. elf ≡ program_of contents) result }
+    ensures fits { IfOk result (λ elf. FitsMemory (segment_extents elf)) }
+{
+    Ok(load_file(alloc, read_file(alloc, shelf, binary)?)?)
+}
+
+/// Reads the files of a command and holds each against its rules; gives what remains to be done.
+pub fn prepare<F: Shelf>(alloc: Global, shelf: &mut F, command: &Command) -> Result<Task, Refusal>
+    requires room { length (F.asked shelf.old) ≤ ASKED_BEFORE }
+    requires limits { AreWithinLimits command.now }
+    ensures prepared { Prepares
+        (read_of F.files F.asked F.given F.faults shelf.old shelf.new) command.now result }
+    ensures can { IfOk result CanDo }
+{
+    match command {
+        Command::Byte {
+            binary,
+            entry,
+            bound,
+        } => Ok(Task::Check(routine_job(alloc, shelf, binary, entry, *bound)?)),
+        Command::Check {
+            binary,
+            policy,
+            bound,
+            budget,
+            targets,
+            ..
+        } => {
+            let options = Options {
+                bound: *bound,
+                budget: *budget,
+                targets: *targets,
+            };
+            let job = policy_job(alloc, shelf, binary, policy, &options);
+            Ok(Task::Check(job?))
+        }
+        Command::Trace {
+            binary,
+            entry,
+            bound,
+        } => Ok(Task::Trace(routine_job(alloc, shelf, binary, entry, *bound)?)),
+        Command::List { binary } => Ok(Task::List(executable(alloc, shelf, binary)?)),
+        Command::Replay { .. } | Command::Gen { .. } => Err(Refusal::Later),
+    }
+}

@@ -1,0 +1,15 @@
+//! What remains to be done once a command's files have passed.
+
+use ct_pairs::Job;
+use elf_load::Elf;
+
+/// What remains to be done once a command's files have passed.
+#[derive(Debug, Drop)]
+pub(crate) enum Task {
+    /// Check the job and report what was found.
+    Check(Job),
+    /// Show each step of the job's run with byte 0.
+    Trace(Job),
+    /// Show every word of the executable that can be executed.
+    List(Elf),
+}

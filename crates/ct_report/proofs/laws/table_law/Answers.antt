@@ -1,5 +1,0 @@
-use Rattle.ct_report.proofs.SiteKinds.{sites_have_kinds}
-use Rattle.ct_report.proofs.laws.table_law.Goals as goal
-
-pub returns : goal.returns
-returns c = sites_have_kinds c.args.job.now c.args.table.now c.requires

@@ -1,0 +1,58 @@
+//! The commands that are run, over the files in `data/`. The files made of listings are made by
+//! `examples/make.py`; `cut.elf` is `return.elf` without its last byte.
+
+/// Commands whose text is written.
+pub const WRITTEN: [&str; 23] = [
+    "byte decode_table.elf 0x10000 100",
+    "byte decode_branch.elf 0x10000 100",
+    "byte decode_constant.elf 0x10000 100",
+    "list decode_constant.elf",
+    "trace decode_table.elf 0x10000 10",
+    "byte decode_branch.elf decode_digit 100",
+    "check decode_table.elf decode_table.toml",
+    "check decode_constant.elf decode_constant.toml",
+    "check decode_memory.elf decode_memory.toml",
+    "byte return.elf 0x10054 10",
+    "byte secret_branch.elf 0x10054 10",
+    "byte secret_branch.elf 65620 0001",
+    "byte load.elf 0x00010054 10",
+    "byte branch_to_next.elf 0x10054 10",
+    "byte loop.elf 0x10054 20",
+    "trace secret_branch.elf 0x10054 5",
+    "trace jumps.elf 0x10054 5",
+    "list return.elf",
+    "check load.elf one_secret.toml",
+    "check secret_branch.elf one_secret.toml",
+    "check secret_branch.elf one_secret.toml --bound 10",
+    "check second_entry.elf one_secret.toml",
+    "check --workers 2 decode_table.elf --bound 3 decode_table.toml --budget 0 --targets 1",
+];
+
+/// Commands that are refused.
+pub const REFUSED: [&str; 25] = [
+    "byte cut.elf 0x10054 10",
+    "list cut.elf",
+    "check cut.elf not_toml.toml",
+    "check cut.elf missing.toml",
+    "byte return.elf 0x10056 10",
+    "byte return.elf 0x10058 10",
+    "trace return.elf 0x10056 10",
+    "byte return.elf nobody 10",
+    "trace decode_table.elf nobody 10",
+    "check return.elf not_toml.toml",
+    "check return.elf outside.toml",
+    "check return.elf decode_table.toml",
+    "check comparison.elf nobody.toml",
+    "check comparison.elf many_inputs.toml",
+    "check comparison.elf shared_byte.toml",
+    "check return.elf no_input.toml",
+    "check return.elf two_secrets.toml",
+    "check load.elf one_public.toml",
+    "check comparison.elf buffers.toml",
+    "replay a b c",
+    "gen 1 1",
+    "byte missing.elf 0x10054 10",
+    "check return.elf missing.toml",
+    "check missing.elf one_secret.toml",
+    "check missing.elf missing.toml",
+];
