@@ -1,0 +1,4 @@
+pub mod Net
+pub mod Rules
+pub mod Run
+pub mod Values
