@@ -1,0 +1,11 @@
+pub mod BitLaws
+pub mod WordLaws
+pub mod Growing
+pub mod Adding
+pub mod SignLaws
+pub mod Ordering
+pub mod Shifts
+pub mod Products
+pub mod Quotients
+pub mod Negatives
+pub mod Computing
