@@ -1,0 +1,9 @@
+pub mod Lists
+pub mod NodeLaws
+pub mod Widths
+pub mod Growing
+pub mod Valuing
+pub mod Fits
+pub mod Evaluating
+pub mod Folds
+pub mod Walking
