@@ -1,0 +1,12 @@
+pub mod BitLaws
+pub mod Moves
+pub mod Settles
+pub mod SumLaws
+pub mod Rules
+pub mod Comparing
+pub mod Parts
+pub mod WordRules
+pub mod ShiftRules
+pub mod NodeRanges
+pub mod Walks
+pub mod FixedLaws

@@ -1,0 +1,7 @@
+use Rattle.std.proofs.Common.{arith, refl}
+use Rattle.bv_range.proofs.WordRules.{add_rule}
+use Rattle.bv_range.proofs.sums.range_of_add.Goals as goal
+
+pub returns : goal.returns
+returns c = add_rule c.args.a c.args.b c.settled.result _ _ _ _ _ _ _ _ (λ n low high. c.wrapped-ends.ensures n (omega arith) (omega arith))
+    c.known_low.ensures.place c.known_low-2.ensures.place c.known_low.ensures.same c.known_low-2.ensures.same c.min-place.ensures refl c.low_bits-bits.ensures.ones c.low_bits-bits.ensures.zeros c.settled.ensures

@@ -1,0 +1,4 @@
+pub mod Known
+pub mod Fixed
+pub mod Rules
+pub mod Remembered
