@@ -1,0 +1,11 @@
+pub mod Pieces
+pub mod Literals
+pub mod Clauses
+pub mod Lines
+pub mod Solutions
+pub mod Resolvent
+pub mod Derivation
+pub mod News
+pub mod Spent
+pub mod Encoding
+pub mod Writing
