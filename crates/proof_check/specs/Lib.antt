@@ -1,0 +1,3 @@
+pub mod Refuted
+pub mod Rejection
+pub mod Lines
