@@ -1,0 +1,5 @@
+pub mod Units
+pub mod Members
+pub mod Moves
+pub mod Placing
+pub mod Totals
