@@ -1,5 +1,5 @@
 -- The bytes of a word, on plain numbers.
-use Rattle.std.proofs.Common.{◌≡◌, ℕ, ◌+◌, ◌*◌, ◌/◌, ◌%◌, ◌^◌, ◌<◌, refl, sym, arith}
+use Rattle.std.proofs.Common.{◌≡◌, ℕ, ◌^◌, ◌<◌, arith}
 use Rattle.bv_expr.specs.Nodes.{joined_bytes, byte_at}
 
 pub member0 : (b0 b1 b2 b3 k : ℕ) → b0 < 2 ^ 8 → k ≡ 0 → b0 ≡ byte_at (joined_bytes b0 b1 b2 b3) k

@@ -1,7 +1,7 @@
 -- What a table says of a node, from what it says of the node's operation.
-use Rattle.std.proofs.Common.{◌≡◌, ℕ, zero, suc, ◌<◌, ◌^◌, List, Option, Some, None, length, get_or, refl, ap, sym, ◌∙◌, subst, inl, inr, arith}
-use Rattle.std.specs.Prelude.{slice_get, ◌↔◌, ◌⊎◌, ◌≢◌, ◌==◌}
-use Rattle.std.specs.Option.{option_and_then, option_map_or, option_zip}
+use Rattle.std.proofs.Common.{◌≡◌, ℕ, zero, suc, ◌<◌, ◌^◌, List, Option, Some, None, length, refl, ap, sym, ◌∙◌, subst, inl, inr, arith}
+use Rattle.std.specs.Prelude.{slice_get, ◌↔◌, ◌⊎◌, ◌==◌}
+use Rattle.std.specs.Option.{option_and_then, option_map_or}
 use Rattle.std.proofs.lemmas.Option.{slice_get-get_or}
 use Rattle.ct_words.specs.Words.{flag}
 use Rattle.ct_words.specs.declared.alu_op.AluOp.{AluOp}

@@ -1,6 +1,6 @@
 -- Sums and differences of words, on plain numbers.
-use Rattle.std.proofs.Common.{◌≡◌, ℕ, Bool, true, false, ◌+◌, ◌-◌, ◌%◌, ◌^◌, ◌<◌, List, Option, Some, None, refl, ap, sym, subst, ◌∙◌, arith}
-use Rattle.std.specs.Prelude.{bit_xor, IfSome, nat_eq, if◌then◌else◌}
+use Rattle.std.proofs.Common.{◌≡◌, ℕ, Bool, true, false, ◌^◌, ◌<◌, List, Option, Some, None, refl, ap, sym, subst, ◌∙◌, arith}
+use Rattle.std.specs.Prelude.{IfSome, nat_eq, if◌then◌else◌}
 use Rattle.std.specs.Int.Bits.{xor_self, xor_zero_r, xor_assoc}
 use Rattle.std.proofs.lemmas.Nat.{xor_comm}
 use Rattle.std.proofs.lemmas.Bool.{eqb-true}
@@ -17,7 +17,7 @@ use Rattle.bv_passes.specs.declared.summand.Summand.{Summand}
 use Rattle.bv_passes.specs.declared.body.Body.{Body}
 use Rattle.bv_passes.specs.declared.body.Body.TheVariants.{Nothing, Old, Negative, Operation}
 use Rattle.bv_passes.specs.Rewriting.{IsRight, IsValue}
-use Rattle.bv_passes.specs.Adding.{plus, minus, body_value, HasWords, IsBodyOf, rest_value, with_number, difference_by, IsSummand, IsWordOrNone}
+use Rattle.bv_passes.specs.Adding.{plus, minus, IsBodyOf, rest_value, with_number, difference_by, IsSummand, IsWordOrNone}
 
 pub add_zero : (n : ℕ) → n < 2 ^ 32 → n ≡ alu_value Add n 0
 unfolding alu_value

@@ -1,13 +1,13 @@
 -- Operations with no effect, or one result, on plain numbers.
-use Rattle.std.proofs.Common.{◌≡◌, ℕ, ◌+◌, ◌-◌, ◌*◌, ◌/◌, ◌%◌, ◌^◌, ◌<◌, ◌≤◌, Bool, true, false, Option, Some, None, refl, ap, sym, ◌∙◌, arith, bit_and, bit_or}
-use Rattle.std.specs.Prelude.{bit_xor, IsSomeAnd, ℤ, pos, negsuc}
+use Rattle.std.proofs.Common.{◌≡◌, ℕ, ◌^◌, ◌<◌, true, false, refl, sym, arith}
+use Rattle.std.specs.Prelude.{IsSomeAnd, ℤ, pos, negsuc}
 use Rattle.std.proofs.Math.Nat.{div-one}
 use Rattle.std.specs.Int.{w32, cast_signed, cast_unsigned, int_shr}
 use Rattle.std.specs.Int.Bits.{xor_zero_l, xor_zero_r, or_zero_l, or_zero_r, and_zero_l, and_zero_r, xor_self}
 use Rattle.std.proofs.lemmas.Int.{of_z-to_z}
 use Rattle.ct_words.specs.Words.{alu_value}
 use Rattle.ct_words.specs.declared.alu_op.AluOp.{AluOp}
-use Rattle.ct_words.specs.declared.alu_op.AluOp.TheVariants.{Add, Sub, Sll, Slt, Sltu, Xor, Srl, Sra, Or, And, Mul, Mulh, Mulhsu, Mulhu, Div, Divu, Rem, Remu}
+use Rattle.ct_words.specs.declared.alu_op.AluOp.TheVariants.{Add, Sub, Sll, Xor, Srl, Sra, Or, And, Mul}
 use Rattle.bv_passes.specs.Algebra.{right_unit, left_unit, zero_of, cancels}
 
 shr_one : (z : ℤ) → int_shr z 0 ≡ z

@@ -1,5 +1,5 @@
 -- The table of the pass `Sums`: numbers float out of sums and are joined, and what is added and taken away is dropped.
-use Rattle.std.specs.Prelude.{◌≡◌, ℕ, zero, ◌+◌, ◌-◌, ◌%◌, ◌^◌, ◌<◌, ◌==◌, List, Option, Some, None, IfSome, slice_get, if◌then◌else◌}
+use Rattle.std.specs.Prelude.{◌≡◌, ℕ, ◌+◌, ◌-◌, ◌%◌, ◌^◌, ◌<◌, ◌==◌, List, Option, Some, None, slice_get, if◌then◌else◌}
 use Rattle.std.specs.Option.{option_and_then, option_map_or}
 use Rattle.ct_words.specs.Words.{alu_value}
 use Rattle.ct_words.specs.declared.alu_op.AluOp.{AluOp}

@@ -5,3 +5,4 @@ pub mod Algebra
 pub mod Bytes
 pub mod Shifting
 pub mod Adding
+pub mod Knowing

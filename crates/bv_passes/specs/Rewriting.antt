@@ -43,6 +43,12 @@ pub record IsRight (nodes : List QNode) (w : ℕ) (value : (ℕ → ℕ) → ℕ
   pub parts : HasParts nodes w rewrite
   pub values : (env v : ℕ → ℕ) → AreBytes env → IsValuation env v nodes → IsValue v (value v) rewrite
 
+-- what a table says is to keep the expression, or a number
+abbrev pub IsKeepOrNumber : Rewrite → Type 0
+IsKeepOrNumber Keep = Unit {0}
+IsKeepOrNumber (Number x) = Unit {0}
+IsKeepOrNumber _ = ⊥
+
 -- node k is the operand
 abbrev pub IsOperand : List QNode → Operand → ℕ → Type 0
 IsOperand nodes (operands.Node j) k = k ≡ j

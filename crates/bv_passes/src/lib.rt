@@ -5,6 +5,7 @@ mod algebra;
 mod body;
 mod changes;
 mod constants;
+mod known_bits;
 mod making;
 mod merge_bytes;
 mod pass;
@@ -17,6 +18,7 @@ pub mod trial;
 
 pub use algebra::Algebra;
 pub use body::Body;
+pub use known_bits::{KnownBits, MOST_LOOKED};
 pub use merge_bytes::MergeBytes;
 pub use pass::{Kit, MOST_NEW, Pass};
 pub use rewrite::{Operand, Rewrite};

@@ -9,7 +9,7 @@ ghost use Rattle.bv_expr.specs.Growth.{Extends, AddsNoInput};
 ghost use Rattle.bv_expr.specs.Folding.{alu_node, constant_in};
 ghost use Rattle.bv_expr.specs.declared.q_node.QNode.TheVariants.{Constant};
 ghost use Rattle.bv_passes.specs.Answering.{IsAnswer};
-ghost use Rattle.bv_passes.specs.Rewriting.{IsRight, IsSaid, IsWord, IsOperand, operand_value};
+ghost use Rattle.bv_passes.specs.Rewriting.{IsRight, IsSaid, IsWord, IsOperand, IsKeepOrNumber, operand_value};
 
 use crate::rewrite::{Operand, Rewrite};
 use bv_expr::{Arena, ExprId, WORD};
@@ -77,6 +77,7 @@ impl Rewrite {
         ensures answer { IfOk result (λ answer. IsAnswer arena.old arena.new id.0 answer.0) }
         ensures said { IfOk result (λ answer. IsSaid arena.new id.0 width self answer.0) }
         ensures extends { Extends arena.old arena.new 4 }
+        ensures one { IsKeepOrNumber self → Extends arena.old arena.new 1 }
         ensures no_input { AddsNoInput arena.old arena.new }
     {
         match self {

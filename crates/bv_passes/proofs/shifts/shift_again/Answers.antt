@@ -1,6 +1,4 @@
 use Rattle.std.proofs.Common.{sym}
-use Rattle.bv_passes.specs.declared.rewrite.Rewrite.{Rewrite}
-use Rattle.bv_passes.specs.Rewriting.{IsRight, IsOther}
 use Rattle.bv_passes.proofs.Moves.{one_shift_right, one_shift_other}
 use Rattle.bv_passes.proofs.shifts.shift_again.Goals as goal
 
