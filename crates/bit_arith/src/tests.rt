@@ -1,3 +1,5 @@
+//! Operations and conditions on worked pairs of words.
+
 ghost use Rattle.std.specs.Prelude.{◌≡◌, ◌≤◌, length, IfOk, OnOk};
 ghost use Rattle.gate_form.specs.Net.{AreIn};
 

@@ -1,11 +1,11 @@
 -- Bits of words, and how operations move them.
-use Rattle.std.proofs.Common.{◌≡◌, ℕ, zero, suc, ◌+◌, ◌-◌, ◌*◌, ◌/◌, ◌%◌, ◌^◌, ◌<◌, ◌≤◌, ◌⊎◌, arith, refl, sym, ap, ◌∙◌, subst, inl, inr, min, max}
+use Rattle.std.proofs.Common.{◌≡◌, ℕ, ◌+◌, ◌-◌, ◌*◌, ◌/◌, ◌%◌, ◌^◌, ◌<◌, ◌≤◌, arith, refl, sym, ap, ◌∙◌, inl, inr, min, max}
 use Rattle.std.specs.Prelude.{bit_and, bit_or, bit_xor}
 use Rattle.std.specs.Int.{bit_at}
 use Rattle.std.proofs.lemmas.Bool.{cases_lt}
-use Rattle.std.proofs.lemmas.Nat.{and_le_l, and_comm, and-not, shr-shr, shr_split, mod_below, pow_pos}
+use Rattle.std.proofs.lemmas.Nat.{and_le_l, and-not, shr-shr, shr_split, mod_below, pow_pos}
 use Rattle.std.proofs.lemmas.Nat.Bits.{bit_at_and, bit_at_or, bit_at_xor, bit_at-lt, same_from_bits, bit_at-zero, bit_at_above, bit_at_cat_low, bit_at_cat_high}
-use Rattle.bv_range.specs.Known.{Bitwise, IsOn, IsOff, HasBits, IsWithin}
+use Rattle.bv_range.specs.Known.{Bitwise, IsOn, IsOff, HasBits}
 
 -- bits of a number that is moved down
 pub bit_at_shr : (n k i : ℕ) → bit_at (n / 2 ^ k) i ≡ bit_at n (k + i)

@@ -1,19 +1,16 @@
 -- Comparisons of words that are known in part.
-use Rattle.std.proofs.Common.{◌≡◌, ℕ, zero, suc, ◌+◌, ◌-◌, ◌*◌, ◌/◌, ◌%◌, ◌^◌, ◌<◌, ◌≤◌, ◌⊎◌, arith, refl, sym, ap, ◌∙◌, subst, inl, inr, min, max, Bool, true, false, Option, Some, None, not, cond}
+use Rattle.std.proofs.Common.{◌≡◌, ℕ, ◌^◌, ◌<◌, ◌≤◌, arith, refl, sym, ap, ◌∙◌, inl, inr, min, Bool, true, false, Option, Some, None, not}
 use Rattle.std.specs.Prelude.{bit_and, bit_or, nat_lt, nat_eq, IfSome, ◌≢◌}
-use Rattle.std.specs.Int.{bit_at, w32, cast_signed}
-use Rattle.std.proofs.lemmas.Bool.{cases_lt, cases_eq}
 use Rattle.std.proofs.lemmas.Bool.Decides.{nat_tests}
-use Rattle.std.proofs.lemmas.Nat.{pow_pos}
-use Rattle.std.proofs.lemmas.Nat.Bits.{bit_at_and, bit_at_or, bit_at-lt, bit_at-zero, same_from_bits}
+use Rattle.std.proofs.lemmas.Nat.Bits.{bit_at_and, bit_at-lt, bit_at-zero, same_from_bits}
 use Rattle.ct_words.specs.Words.{alu_value, test_value, flag}
 use Rattle.ct_words.specs.declared.alu_op.AluOp.TheVariants.{Slt, Sltu}
 use Rattle.ct_words.specs.declared.cond.Cond.{Cond}
 use Rattle.ct_words.specs.declared.cond.Cond.TheVariants as conds
 use Rattle.bv_expr.specs.Typing.{IsWidth}
 use mir.Val.{bool_byte}
-use Rattle.bv_range.specs.Known.{Bitwise, IsOn, IsOff, HasBits, IsWithin, IsShaped}
-use Rattle.bv_range.specs.Fixed.{Fixed, none_fixed, alu_fixed, HoldsBits}
+use Rattle.bv_range.specs.Known.{Bitwise, IsOn, IsOff, HasBits, IsWithin}
+use Rattle.bv_range.specs.Fixed.{alu_fixed}
 use Rattle.bv_range.specs.Rules.{IsSettled, IsWordRule, IsTestRule, IsOutcome, IsKnownBit}
 use Rattle.bv_range.specs.declared.range.Range.{Range}
 use Rattle.bv_range.proofs.Rules.{no_bits, none_held}

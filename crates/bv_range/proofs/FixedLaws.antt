@@ -3,8 +3,8 @@ use Rattle.std.proofs.Common.{◌≡◌, ℕ, ◌<◌, List, refl}
 use Rattle.bv_expr.specs.declared.q_node.QNode.{QNode}
 use Rattle.bv_expr.specs.declared.q_node.QNode.TheVariants.{Constant, Input, Alu, Test, Not, Both, Pick, Join, Byte}
 use Rattle.bv_expr.specs.Typing.{IsTyped, HasEarlier}
-use Rattle.bv_expr.proofs.Valuing.{IsLocal, gathered_at}
-use Rattle.bv_range.specs.Fixed.{Fixed, none_fixed, alu_fixed, node_fixed, AreFixed, fixed_of}
+use Rattle.bv_expr.proofs.Valuing.{gathered_at}
+use Rattle.bv_range.specs.Fixed.{Fixed, none_fixed, node_fixed, AreFixed, fixed_of}
 
 same : (v w : ℕ → Fixed) (i : ℕ) (n : QNode) → HasEarlier i n → ((k : ℕ) → k < i → v k ≡ w k) → node_fixed v n ≡ node_fixed w n
 same v w i (Constant k x) e h = refl

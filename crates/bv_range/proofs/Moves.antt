@@ -1,6 +1,6 @@
 -- Words that are shifted, as two parts put together.
-use Rattle.std.proofs.Common.{◌≡◌, ℕ, ◌+◌, ◌-◌, ◌*◌, ◌/◌, ◌%◌, ◌^◌, ◌<◌, ◌≤◌, arith, refl, sym, ap, ◌∙◌}
-use Rattle.std.proofs.lemmas.Nat.{one_shl, shl-shr, mod-pow-add, mod-mul-add, mul-add-lt, mod_below, pow_pos, pow-add, shr_below}
+use Rattle.std.proofs.Common.{◌≡◌, ℕ, ◌+◌, ◌-◌, ◌*◌, ◌/◌, ◌%◌, ◌^◌, ◌<◌, ◌≤◌, arith, sym, ap, ◌∙◌}
+use Rattle.std.proofs.lemmas.Nat.{shl-shr, mod-pow-add, mod-mul-add, mul-add-lt, mod_below, pow_pos, pow-add, shr_below}
 
 -- the two parts of a word
 pub whole : (k : ℕ) → k ≤ 32 → 2 ^ k * 2 ^ (32 - k) ≡ 2 ^ 32

@@ -1,19 +1,19 @@
 -- Ranges of nodes, from those of their operands.
-use Rattle.std.proofs.Common.{◌≡◌, ℕ, zero, suc, ◌+◌, ◌-◌, ◌%◌, ◌^◌, ◌<◌, ◌≤◌, List, length, Option, Some, arith, refl, sym, ap, ◌∙◌, subst, inl, inr}
+use Rattle.std.proofs.Common.{◌≡◌, ℕ, ◌-◌, ◌%◌, ◌^◌, ◌<◌, List, Some, arith, refl, sym, ◌∙◌, subst}
 use Rattle.std.specs.Prelude.{slice_get, slice_index}
 use Rattle.std.proofs.Math.Nat.{mod-eq_of_lt}
 use Rattle.ct_words.specs.Words.{alu_value, test_value, flag}
 use Rattle.ct_words.specs.declared.alu_op.AluOp.{AluOp}
 use Rattle.ct_words.specs.declared.cond.Cond.{Cond}
-use Rattle.bv_expr.specs.Nodes.{IsValuation, AreBytes, AreWidths, HasWidth}
+use Rattle.bv_expr.specs.Nodes.{AreWidths, HasWidth}
 use Rattle.bv_expr.specs.Typing.{IsTyped, HaveOneWidth}
-use Rattle.bv_expr.specs.Valuations.{values_of, widths_of}
+use Rattle.bv_expr.specs.Valuations.{values_of}
 use Rattle.bv_expr.specs.declared.q_node.QNode.{QNode}
 use Rattle.bv_expr.specs.declared.q_node.QNode.TheVariants.{Constant, Input, Alu, Test, Not, Both, Pick, Join, Byte}
 use Rattle.bv_expr.proofs.Valuing.{values_exist, widths_exist}
 use Rattle.bv_expr.proofs.Fits.{value_fits}
-use Rattle.bv_range.specs.Known.{HasBits, IsWithin, IsShaped, IsProper}
-use Rattle.bv_range.specs.Fixed.{Fixed, AreFixed, HoldsBits, alu_fixed}
+use Rattle.bv_range.specs.Known.{HasBits, IsShaped, IsProper}
+use Rattle.bv_range.specs.Fixed.{alu_fixed}
 use Rattle.bv_range.specs.Rules.{IsSettled, IsWordRule, IsTestRule, IsNotRule, IsBothRule, IsPickRule, IsJoinRule, IsByteRule}
 use Rattle.bv_range.specs.Remembered.{IsRangeOf}
 use Rattle.bv_range.specs.declared.range.Range.{Range}

@@ -1,6 +1,6 @@
 -- Rules of bits, choices, and words and their bytes.
-use Rattle.std.proofs.Common.{◌≡◌, ℕ, zero, suc, ◌+◌, ◌-◌, ◌*◌, ◌/◌, ◌%◌, ◌^◌, ◌<◌, ◌≤◌, ◌⊎◌, arith, refl, sym, ap, ◌∙◌, subst, inl, inr, min, max, Bool, true, false, cond}
-use Rattle.std.specs.Prelude.{bit_and, bit_or, nat_eq, ◌≢◌}
+use Rattle.std.proofs.Common.{◌≡◌, ℕ, ◌+◌, ◌-◌, ◌*◌, ◌/◌, ◌%◌, ◌^◌, ◌<◌, ◌≤◌, arith, refl, min, max, Bool, true, false, cond}
+use Rattle.std.specs.Prelude.{bit_and, nat_eq, ◌≢◌}
 use Rattle.std.specs.Int.{bit_at}
 use Rattle.std.proofs.lemmas.Bool.Decides.{nat_tests}
 use Rattle.std.proofs.lemmas.Nat.{pow_pos, mod_below}
@@ -8,12 +8,12 @@ use Rattle.std.proofs.lemmas.Nat.Bits.{bit_at_and, bit_at-lt}
 use Rattle.ct_words.specs.Words.{flag}
 use Rattle.bv_expr.specs.Nodes.{joined_bytes, byte_at}
 use Rattle.bv_range.specs.Known.{Bitwise, IsOn, IsOff, HasBits, IsWithin, IsShaped, IsProper}
-use Rattle.bv_range.specs.Fixed.{Fixed, none_fixed, HoldsBits}
+use Rattle.bv_range.specs.Fixed.{Fixed, HoldsBits}
 use Rattle.bv_range.specs.Rules.{IsSettled, IsNotRule, IsBothRule, IsPickRule, IsJoinRule, IsByteRule}
 use Rattle.bv_range.specs.declared.range.Range.{Range}
-use Rattle.bv_range.proofs.BitLaws.{moved_down, low_part, put_together, ones_le, le_rest}
+use Rattle.bv_range.proofs.BitLaws.{moved_down, low_part, put_together, ones_le}
 use Rattle.bv_range.proofs.Settles.{div_le}
-use Rattle.bv_range.proofs.Rules.{no_bits, none_held, through}
+use Rattle.bv_range.proofs.Rules.{no_bits, through}
 
 not_value : (x : ℕ) → x < 2 → flag (nat_eq x 0) ≡ 1 - x
 not_value x lt = grind (arith, nat_tests)

@@ -1,15 +1,12 @@
 -- Rules of operations on words, each from one fact on plain numbers.
-use Rattle.std.proofs.Common.{◌≡◌, ℕ, zero, suc, ◌+◌, ◌-◌, ◌*◌, ◌/◌, ◌%◌, ◌^◌, ◌<◌, ◌≤◌, ◌⊎◌, arith, refl, sym, ap, ◌∙◌, subst, inl, inr, min, max}
+use Rattle.std.proofs.Common.{◌≡◌, ℕ, ◌-◌, ◌^◌, ◌<◌, ◌≤◌, arith, min, max}
 use Rattle.std.specs.Prelude.{bit_and, bit_or, bit_xor}
-use Rattle.std.specs.Int.{bit_at}
 use Rattle.std.proofs.lemmas.Nat.{and_le_l, and_le_r, le_or_l, le_or_r, or_of_32, xor_of_32}
 use Rattle.std.proofs.lemmas.Nat.Bits.{bit_at-zero}
 use Rattle.ct_words.specs.Words.{alu_value}
-use Rattle.ct_words.specs.declared.alu_op.AluOp.{AluOp}
-use Rattle.ct_words.specs.declared.alu_op.AluOp.TheVariants.{Add, Sub, Sll, Xor, Srl, Or, And, Mul, Mulhu, Divu, Remu}
-use Rattle.ct_words.proofs.Bounds.{alu_value_lt}
-use Rattle.bv_range.specs.Known.{Bitwise, IsOn, IsOff, HasBits, IsWithin, IsShaped}
-use Rattle.bv_range.specs.Fixed.{Fixed, none_fixed, alu_fixed, HoldsBits}
+use Rattle.ct_words.specs.declared.alu_op.AluOp.TheVariants.{Xor, Or, And}
+use Rattle.bv_range.specs.Known.{Bitwise, IsOn, HasBits, IsWithin}
+use Rattle.bv_range.specs.Fixed.{none_fixed, alu_fixed, HoldsBits}
 use Rattle.bv_range.specs.Rules.{IsSettled, IsWordRule}
 use Rattle.bv_range.specs.declared.range.Range.{Range}
 use Rattle.bv_range.proofs.BitLaws.{off_and, on_and, off_or, on_or, HasBits-xor}

@@ -1,16 +1,13 @@
 -- Rules of shifts, each from one fact on plain numbers.
-use Rattle.std.proofs.Common.{◌≡◌, ℕ, zero, suc, ◌+◌, ◌-◌, ◌*◌, ◌/◌, ◌%◌, ◌^◌, ◌<◌, ◌≤◌, ◌⊎◌, arith, refl, sym, ap, ◌∙◌, subst, inl, inr, min, max}
-use Rattle.std.specs.Prelude.{bit_and, bit_or, bit_xor, nat_eq}
-use Rattle.std.specs.Int.{bit_at}
-use Rattle.std.proofs.Math.Nat.{div-mul-le_self, mod-le, mod-eq_of_lt, mul-le-mul_left, div-le_self}
-use Rattle.std.proofs.lemmas.Bool.Decides.{nat_tests}
-use Rattle.std.proofs.lemmas.Nat.{mul-le, le-div, mod_below, pow_pos}
+use Rattle.std.proofs.Common.{◌≡◌, ℕ, ◌+◌, ◌-◌, ◌*◌, ◌/◌, ◌%◌, ◌^◌, ◌<◌, ◌≤◌, arith, refl, sym, ap, ◌∙◌}
+use Rattle.std.specs.Prelude.{nat_eq}
+use Rattle.std.proofs.Math.Nat.{div-le_self}
+use Rattle.std.proofs.lemmas.Nat.{mul-le, pow_pos}
 use Rattle.ct_words.specs.Words.{alu_value}
-use Rattle.ct_words.specs.declared.alu_op.AluOp.{AluOp}
-use Rattle.ct_words.specs.declared.alu_op.AluOp.TheVariants.{Add, Sub, Sll, Srl, Mul, Mulhu, Divu, Remu}
+use Rattle.ct_words.specs.declared.alu_op.AluOp.TheVariants.{Sll, Srl}
 use Rattle.ct_words.proofs.Bounds.{alu_value_lt}
-use Rattle.bv_range.specs.Known.{Bitwise, IsOn, IsOff, HasBits, IsWithin, IsShaped}
-use Rattle.bv_range.specs.Fixed.{Fixed, none_fixed, alu_fixed, fixed_up, fixed_down, fixed_shift, HoldsBits}
+use Rattle.bv_range.specs.Known.{Bitwise, IsOn, IsOff, HasBits, IsShaped}
+use Rattle.bv_range.specs.Fixed.{Fixed, none_fixed, alu_fixed, fixed_up, fixed_down, HoldsBits}
 use Rattle.bv_range.specs.Rules.{IsSettled, IsWordRule}
 use Rattle.bv_range.specs.declared.range.Range.{Range}
 use Rattle.std.specs.Prelude.{◌≢◌, Bool, true, false}

@@ -1,5 +1,5 @@
 -- Low bits that are known, through sums, differences and products.
-use Rattle.std.proofs.Common.{◌≡◌, ℕ, zero, suc, ◌+◌, ◌-◌, ◌*◌, ◌/◌, ◌%◌, ◌^◌, ◌<◌, ◌≤◌, ◌⊎◌, arith, refl, sym, ap, ◌∙◌, subst, inl, inr, min, max}
+use Rattle.std.proofs.Common.{◌≡◌, ℕ, ◌+◌, ◌-◌, ◌*◌, ◌/◌, ◌%◌, ◌^◌, ◌<◌, ◌≤◌, ◌⊎◌, arith, refl, sym, ap, ◌∙◌, inl, inr, min, max}
 use Rattle.std.specs.Prelude.{bit_and, bit_or}
 use Rattle.std.specs.Int.{bit_at, w32, trailing_ones}
 use Rattle.std.specs.Int.Bits.{and_self}
@@ -8,7 +8,7 @@ use Rattle.std.proofs.Math.Pow.{mod-mod-pow}
 use Rattle.std.proofs.lemmas.Bool.{cases_lt}
 use Rattle.std.proofs.lemmas.Nat.{and-not, mod_below, pow_pos, pow-add, mod-mul-add, shr_split, trailing_le}
 use Rattle.std.proofs.lemmas.Nat.Bits.{bit_at_and, bit_at_or, bit_at-lt, bit_at-zero, bit_at_above, bit_at_ones, bit_at-trailing_ones, same_from_bits_below}
-use Rattle.bv_range.specs.Known.{Bitwise, IsOn, IsOff, HasBits}
+use Rattle.bv_range.specs.Known.{HasBits}
 use Rattle.bv_range.proofs.BitLaws.{bit_at_mod}
 
 -- a number has no bit in common with what it leaves of 2 ^ p - 1

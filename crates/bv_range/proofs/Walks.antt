@@ -1,16 +1,14 @@
 -- The walk that finds ranges.
-use Rattle.std.proofs.Common.{◌≡◌, ℕ, zero, suc, ◌+◌, ◌<◌, ◌≤◌, Bool, true, false, cond, List, [], ◌∷◌, ◌++◌, length, Option, Some, None, refl, sym, ap, ◌∙◌, subst, inl, inr, arith, eqb}
-use Rattle.std.specs.Prelude.{slice_get, slice_index, nat_eq, MatchOption, ◌≢◌, is_some}
+use Rattle.std.proofs.Common.{◌≡◌, ℕ, ◌+◌, ◌<◌, true, false, cond, List, [], ◌∷◌, ◌++◌, length, Option, Some, None, refl, sym, ap, ◌∙◌, inl, inr, arith, eqb}
+use Rattle.std.specs.Prelude.{slice_index, MatchOption, ◌≢◌, is_some}
 use Rattle.std.specs.Option.{option_to_list}
-use Rattle.std.proofs.lemmas.Bool.{cases_lt, cases_eq}
+use Rattle.std.proofs.lemmas.Bool.{cases_eq}
 use Rattle.std.proofs.lemmas.Bool.Decides.{nat_tests}
 use Rattle.std.proofs.lemmas.List.{length_push, get_or_append_left}
 use Rattle.bv_expr.specs.declared.q_node.QNode.{QNode}
-use Rattle.bv_expr.specs.Nodes.{IsValuation}
 use Rattle.bv_expr.specs.Growth.{Extends}
-use Rattle.bv_expr.specs.Walk.{IsWalking, IsOpenBelow, rest_of, left_of}
+use Rattle.bv_expr.specs.Walk.{IsWalking, IsOpenBelow, left_of}
 use Rattle.bv_expr.proofs.Walking.{walk_down, walk_up, Finishes}
-use Rattle.bv_range.specs.Fixed.{Fixed, AreFixed}
 use Rattle.bv_range.specs.Remembered.{IsRangeOf, AreRight, remembered, is_remembered, Moves}
 use Rattle.bv_range.specs.declared.range.Range.{Range}
 

@@ -1,5 +1,5 @@
 -- The bits of an expression that its operations alone fix.
-use Rattle.std.specs.Prelude.{◌≡◌, ℕ, ◌+◌, ◌-◌, ◌*◌, ◌/◌, ◌%◌, ◌^◌, ◌==◌, List, Option, Some, slice_get, slice_index_or, bit_and, bit_or, if◌then◌else◌}
+use Rattle.std.specs.Prelude.{◌≡◌, ℕ, ◌+◌, ◌-◌, ◌*◌, ◌/◌, ◌%◌, ◌^◌, ◌==◌, List, Some, slice_get, slice_index_or, bit_and, bit_or, if◌then◌else◌}
 use Rattle.ct_words.specs.declared.alu_op.AluOp.{AluOp}
 use Rattle.ct_words.specs.declared.alu_op.AluOp.TheVariants.{Sll, Srl, Xor, Or, And}
 use Rattle.bv_expr.specs.Nodes.{joined_bytes, byte_at}

@@ -1,3 +1,5 @@
+//! The rules of conjunctions, and that equal gates are shared.
+
 use super::*;
 use std::alloc::AllocError;
 

@@ -1,4 +1,4 @@
-use Rattle.std.proofs.Common.{◌≡◌, ◌*◌, ◌%◌, ◌^◌, ◌-◌, ◌≤◌, ◌<◌, arith, rules, Fits, w32}
+use Rattle.std.proofs.Common.{arith, rules, Fits, w32}
 use Rattle.std.proofs.lemmas.Nat.{one_shl}
 use Rattle.bv_range.proofs.Moves.{down_fits}
 use Rattle.bv_range.proofs.bits.down_bits.Goals as goal

@@ -1,4 +1,4 @@
-use Rattle.std.proofs.Common.{◌≡◌, ◌*◌, ◌%◌, ◌^◌, ◌-◌, ◌≤◌, ◌<◌, arith}
+use Rattle.std.proofs.Common.{◌^◌, ◌-◌, arith}
 use Rattle.std.proofs.lemmas.Nat.{one_shl, pow_pos}
 use Rattle.bv_range.proofs.Moves.{shifted_up, up_fits}
 use Rattle.bv_range.proofs.bits.up_bits.Goals as goal

@@ -1,4 +1,3 @@
-use Rattle.std.proofs.Common.{refl}
 use Rattle.bv_range.proofs.Rules.{and_rule}
 use Rattle.bv_range.proofs.bitwise.range_of_and.Goals as goal
 

@@ -1,4 +1,3 @@
-use Rattle.std.proofs.Common.{refl}
 use Rattle.bv_range.proofs.Parts.{byte_rule, byte_any_rule}
 use Rattle.bv_range.proofs.bytes.range_of_byte.Goals as goal
 

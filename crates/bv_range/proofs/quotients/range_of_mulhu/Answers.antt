@@ -1,4 +1,4 @@
-use Rattle.std.proofs.Common.{arith, refl}
+use Rattle.std.proofs.Common.{refl}
 use Rattle.bv_range.proofs.WordRules.{mulhu_rule}
 use Rattle.bv_range.proofs.quotients.range_of_mulhu.Goals as goal
 

@@ -1,4 +1,4 @@
-use Rattle.std.proofs.Common.{arith, refl, ◌≡◌, min, ◌-◌}
+use Rattle.std.proofs.Common.{arith}
 use Rattle.bv_range.proofs.WordRules.{remu_rule, remu_same_rule, remu_below_rule}
 use Rattle.bv_range.proofs.quotients.range_of_remu.Goals as goal
 

@@ -1,4 +1,4 @@
-use Rattle.std.proofs.Common.{arith, refl, rules, Fits, w32, ◌≡◌, ◌*◌, ◌^◌, ◌%◌}
+use Rattle.std.proofs.Common.{arith, rules, Fits, w32}
 use Rattle.std.proofs.lemmas.Nat.{shl_whole}
 use Rattle.bv_range.proofs.ShiftRules.{sll_rule, sll_any_rule}
 use Rattle.bv_range.proofs.shifts.range_of_sll.Goals as goal

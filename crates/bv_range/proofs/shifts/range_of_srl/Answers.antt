@@ -1,4 +1,4 @@
-use Rattle.std.proofs.Common.{arith, refl, rules, Fits, w32}
+use Rattle.std.proofs.Common.{refl, rules, Fits, w32}
 use Rattle.bv_range.proofs.ShiftRules.{srl_rule, srl_any_rule}
 use Rattle.bv_range.proofs.shifts.range_of_srl.Goals as goal
 

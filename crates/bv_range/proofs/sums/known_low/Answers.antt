@@ -1,4 +1,4 @@
-use Rattle.std.proofs.Common.{◌≡◌, ◌<◌, ◌^◌, rules, ℕ, Fits, w32, arith}
+use Rattle.std.proofs.Common.{rules, Fits, w32}
 use Rattle.std.proofs.lemmas.Nat.{or_of_32}
 use Rattle.bv_range.proofs.SumLaws.{trailing_bits, known_part}
 use Rattle.bv_range.proofs.sums.known_low.Goals as goal

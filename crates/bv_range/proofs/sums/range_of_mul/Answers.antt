@@ -1,4 +1,3 @@
-use Rattle.std.proofs.Common.{arith, refl}
 use Rattle.bv_range.proofs.WordRules.{mul_rule}
 use Rattle.bv_range.proofs.sums.range_of_mul.Goals as goal
 

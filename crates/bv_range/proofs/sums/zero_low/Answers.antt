@@ -1,4 +1,4 @@
-use Rattle.std.proofs.Common.{◌≡◌, ◌<◌, ◌^◌, rules, ℕ, Fits, w32, arith}
+use Rattle.std.proofs.Common.{rules, Fits, w32}
 use Rattle.bv_range.proofs.SumLaws.{trailing_bits, zero_part}
 use Rattle.bv_range.proofs.sums.zero_low.Goals as goal
 

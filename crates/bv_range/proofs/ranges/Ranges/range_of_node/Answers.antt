@@ -1,4 +1,3 @@
-use Rattle.std.proofs.Common.{arith}
 use Rattle.bv_range.proofs.NodeRanges.{proper, sides, constant_node, input_node, alu_node, test_node, not_node, both_node, pick_node, join_node, byte_node}
 use Rattle.bv_range.proofs.ranges.Ranges.range_of_node.Goals as goal
 

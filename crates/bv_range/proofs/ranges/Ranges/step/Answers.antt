@@ -1,4 +1,4 @@
-use Rattle.std.proofs.Common.{arith, ◌≡◌, length}
+use Rattle.std.proofs.Common.{arith}
 use Rattle.bv_range.proofs.Walks.{moves_down, moves_up, finishes}
 use Rattle.bv_range.proofs.ranges.Ranges.step.Goals as goal
 
