@@ -1,9 +1,9 @@
 -- Clauses under what is given.
-use Rattle.std.proofs.Common.{◌≡◌, ◌⊎◌, ℕ, zero, suc, ◌<◌, ◌+◌, Bool, true, false, not, ◌&&◌, eqb, List, [], ◌∷◌, ◌++◌, length, drop, get_or, Option, Some, None, refl, sym, ◌∙◌, ap, subst, inl, inr, arith}
+use Rattle.std.proofs.Common.{◌≡◌, ◌⊎◌, ℕ, zero, suc, ◌<◌, ◌+◌, Bool, true, false, not, ◌&&◌, eqb, List, [], ◌∷◌, ◌++◌, length, take, drop, get_or, Option, Some, None, refl, sym, ◌∙◌, ap, subst, inl, inr, arith}
 use Rattle.std.specs.Option.{option_to_list, is_some}
 use Rattle.cnf_form.specs.Clauses.{all_below}
 use Rattle.std.proofs.lemmas.Bool.{and_parts, and_from, or_cases, cases_Bool, false≢true, cond-true, cond-false, not-true, not-false, eqb-true, eq-eqb, both_ways, ltb-true}
-use Rattle.std.proofs.lemmas.List.{at_drop_more}
+use Rattle.std.proofs.lemmas.List.{at_drop_more, take_more}
 use Rattle.std.proofs.Math.Bool.{beq}
 use Rattle.cnf_form.specs.declared.lit.Lit.{Lit}
 use Rattle.cnf_form.specs.Literals.{flip, has}
@@ -113,3 +113,10 @@ lit_same l m h = let (v, n) = and_parts _ _ (not-false _ h) in ap (λ (w : ℕ).
   where
     make : ℕ → Bool → Lit
     make w b = record { var = w; negated = b }
+
+-- what holds of the literals so far, and of the next one
+pub has-next : (P : Lit → Type 0) (ls : List Lit) (i : ℕ) (d : Lit) → i < length ls → ((k : Lit) → has (take i ls) k ≡ true → P k) → P (get_or ls i d) → (k : Lit) → has (take (i + 1) ls) k ≡ true → P k
+has-next P ls i d low all here k h = elim (has-push (take i ls) (get_or ls i d) k (subst (λ (xs : List Lit). has xs k ≡ true) (take_more ls i d low) h)) [
+  | inl t ↦ all k t
+  | inr e ↦ subst P (sym e) here
+]

@@ -26,10 +26,10 @@ pub quiet_two_open : (given c : List Lit) (l m : Lit) → has c l ≡ true → h
 quiet_two_open given c l m h i n f g = two_pressed given (unfalsified given c) l m (unfalsified-has given c l h f) (unfalsified-has given c m i g) n
 
 -- a part of the trail is of the current level, or the literal is unset in it
-abbrev IsUpper : List Entry → Lit → List Entry → Type 0
+abbrev pub IsUpper : List Entry → Lit → List Entry → Type 0
 IsUpper full l es = ((below es ≡ below full) × (level_of es ≡ level_of full)) ⊎ (is_free (lits_of es) l.var ≡ true)
 
-upper_next : (full : List Entry) (l : Lit) (e : Entry) (es : List Entry) → is_free (lits_of (below full)) l.var ≡ true → IsUpper full l (e ∷ es) → IsUpper full l es
+pub upper_next : (full : List Entry) (l : Lit) (e : Entry) (es : List Entry) → is_free (lits_of (below full)) l.var ≡ true → IsUpper full l (e ∷ es) → IsUpper full l es
 upper_next full l e es f (inl (b, v)) = go e.reason b v
   where
     go : (r : Option ℕ) → below_with r es (below es) ≡ below full → level_with r (level_of es) ≡ level_of full → IsUpper full l es
@@ -38,10 +38,10 @@ upper_next full l e es f (inl (b, v)) = go e.reason b v
 upper_next full l e es f (inr g) = inr (and_parts _ _ g).1
 
 -- the mark is still there, or the variable is unset
-abbrev IsMarked : ℕ → Mark → List Entry → Type 0
+abbrev pub IsMarked : ℕ → Mark → List Entry → Type 0
 IsMarked v m es = (mark_of es v ≡ Some m) ⊎ (is_free (lits_of es) v ≡ true)
 
-marked_next : (v : ℕ) (m : Mark) (e : Entry) (es : List Entry) → is_free (lits_of es) e.lit.var ≡ true → IsMarked v m (e ∷ es) → IsMarked v m es
+pub marked_next : (v : ℕ) (m : Mark) (e : Entry) (es : List Entry) → is_free (lits_of es) e.lit.var ≡ true → IsMarked v m (e ∷ es) → IsMarked v m es
 marked_next v m e es f (inl h) = elim (cases_Bool (eqb e.lit.var v)) [
   | inl t ↦ inr (subst (λ (n : ℕ). is_free (lits_of es) n ≡ true) (eqb-true _ _ t) f)
   | inr n ↦ inl (sym (cond-false _ _ _ n) ∙ h)

@@ -4,3 +4,10 @@ pub mod PropagationLaws
 pub mod AnalysisLaws
 pub mod JumpLaws
 pub mod SearchLaws
+pub mod WatchLaws
+pub mod LearnLaws
+pub mod KeepLaws
+pub mod EnterLaws
+pub mod PlanLaws
+pub mod RunLaws
+pub mod StepLaws

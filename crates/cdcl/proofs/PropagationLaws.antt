@@ -115,3 +115,13 @@ SweptSoFar-quiet clauses n old mid new Forced low e q h = subst (λ (a : Assigne
 SweptSoFar-quiet clauses n old mid new Complete low e q h =
     subst (λ (a : Assigned). (a ≡ old) × (are_quiet (lits_of a.entries) (take (n + 1) clauses) ≡ true)) (sym e)
     (h.0, subst (λ (cs : List (List Lit)). are_quiet (lits_of mid.entries) cs ≡ true) (sym (take_more clauses n [] low)) (are_quiet-push (lits_of mid.entries) (take n clauses) (get_or clauses n []) h.1 q))
+
+pub slice_get_at : {X : Type 0} (xs : List X) (n : ℕ) (d : X) → n < length xs → slice_get xs n ≡ Some (get_or xs n d)
+slice_get_at [] n d low = absurd (omega arith)
+slice_get_at (x ∷ xs) zero d low = refl
+slice_get_at (x ∷ xs) (suc n) d low = slice_get_at xs n d (omega arith)
+
+pub get_or_any : {X : Type 0} (xs : List X) (n : ℕ) (d e : X) → n < length xs → get_or xs n d ≡ get_or xs n e
+get_or_any [] n d e low = absurd (omega arith)
+get_or_any (x ∷ xs) zero d e low = refl
+get_or_any (x ∷ xs) (suc n) d e low = get_or_any xs n d e (omega arith)

@@ -37,7 +37,7 @@ unset_count-most given (suc v) = go (is_free given v) (unset_count-most given v)
     go true h = omega arith
     go false h = omega arith
 
-not_free : (given : List Lit) (l : Lit) → is_free given l.var ≡ false → (has given l ≡ true) ⊎ (has given (flip l) ≡ true)
+pub not_free : (given : List Lit) (l : Lit) → is_free given l.var ≡ false → (has given l ≡ true) ⊎ (has given (flip l) ≡ true)
 not_free [] l f = absurd (false≢true (sym f))
 not_free (x ∷ xs) l f = elim (and_cases _ _ f) [
   | inl n ↦ let same : x.var ≡ l.var = eqb-true _ _ (not-false _ n) in elim (cases_Bool (is_same x l)) [

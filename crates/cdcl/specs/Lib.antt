@@ -6,3 +6,6 @@ pub mod Analysis
 pub mod Jump
 pub mod Searched
 pub mod State
+pub mod Watch
+pub mod Run
+pub mod Step

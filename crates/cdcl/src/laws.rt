@@ -1,5 +1,6 @@
 //! The search by scanning, which is the law for the search at speed: both have one contract.
-ghost use Rattle.std.specs.Prelude.{◌≡◌, ◌<◌, ◌+◌, ◌^◌, ◌∷◌, ◌++◌, [], true, None, IfOk, OnOk};
+ghost use Rattle.std.specs.Prelude.{◌≡◌, ◌<◌, ◌+◌, ◌^◌, ◌∷◌, ◌++◌, [], true, None, IfOk, OnOk, length};
+ghost use Rattle.std.specs.Bool.{MatchBool};
 ghost use Rattle.cnf_form.specs.Clauses.{all_below, are_clauses};
 ghost use Rattle.cnf_form.specs.News.{is_free};
 ghost use Rattle.cnf_form.specs.Spent.{AreLean};
@@ -9,6 +10,7 @@ ghost use Rattle.cdcl.specs.Searched.{IsSearched, OnSpent};
 
 use crate::analysis::analyze;
 use crate::entry::Entry;
+use crate::learning::jump_level;
 use crate::propagation::propagate;
 use crate::searched::Searched;
 use crate::trail::Trail;
@@ -38,20 +40,27 @@ pub fn search_scan(alloc: Global, cnf: &Cnf, budget: u64) -> Result<Searched, Al
                     log.push(&line)?;
                     return Ok(Searched::Refuted(log));
                 }
-                if log.len() as u64 == budget {
+                if is_spent(&log, budget) {
                     return Ok(Searched::Spent(log));
                 }
                 learn(&mut trail, &mut clauses, &mut log, &line)?;
             }
             None => match trail.first_free() {
-                Some(var) => decide(&mut trail, var)?,
+                Some(var) => decide(&mut trail, Lit { var, negated: true })?,
                 None => return Ok(Searched::Solved(trail.assignment(alloc)?)),
             },
         }
     }
 }
 
-fn copied(alloc: Global, clauses: &Clauses) -> Result<Clauses, AllocError>
+/// Whether the budget has no line left.
+pub(crate) fn is_spent(log: &Log, budget: u64) -> bool
+    ensures { MatchBool result (length log.now ≡ budget) (length log.now ≡ budget → ⊥) }
+{
+    log.len() as u64 == budget
+}
+
+pub(crate) fn copied(alloc: Global, clauses: &Clauses) -> Result<Clauses, AllocError>
     ensures { IfOk result (λ copy. copy ≡ clauses.now) }
 {
     let mut copy = Clauses::new(alloc);
@@ -61,16 +70,13 @@ fn copied(alloc: Global, clauses: &Clauses) -> Result<Clauses, AllocError>
     Ok(copy)
 }
 
-fn decide(trail: &mut Trail, var: u32) -> Result<(), AllocError>
-    requires in_range { var < trail.old.vars }
-    requires free { is_free (lits_of trail.old.entries) var ≡ true }
+pub(crate) fn decide(trail: &mut Trail, lit: Lit) -> Result<(), AllocError>
+    requires in_range { lit.var < trail.old.vars }
+    requires free { is_free (lits_of trail.old.entries) lit.var ≡ true }
     ensures vars { trail.new.vars ≡ trail.old.vars }
-    ensures entries { OnOk result (trail.new.entries ≡ record { lit = record { var = var; negated = true }; reason = None } ∷ trail.old.entries) }
+    ensures entries { OnOk result (trail.new.entries ≡ record { lit = lit; reason = None } ∷ trail.old.entries) }
 {
-    trail.push(Entry {
-        lit: Lit { var, negated: true },
-        reason: None,
-    })
+    trail.push(Entry { lit, reason: None })
 }
 
 /// Adds a line, and goes back to where its clause is to be looked at.
@@ -95,21 +101,4 @@ fn learn(
     log.push(line)?;
     trail.back_to(level);
     Ok(())
-}
-
-/// The greatest level of the literals below the current one, or 0.
-fn jump_level(trail: &Trail, lits: &[Lit]) -> usize
-    requires { all_below trail.now.vars lits.now ≡ true }
-    ensures { IsJump trail.now.entries lits.now result }
-{
-    let mut level = 0;
-    for lit in lits {
-        let Some(mark) = trail.mark(*lit) else {
-            continue;
-        };
-        if level < mark.level && mark.level < trail.level() {
-            level = mark.level;
-        }
-    }
-    level
 }

@@ -4,14 +4,24 @@
 
 mod analysis;
 mod derived;
+mod entering;
 mod entry;
 pub mod laws;
+mod learning;
 mod mark;
+mod numbers;
+mod order;
+mod pace;
 mod propagation;
+mod run;
 mod searched;
 mod solver;
 mod status;
+mod step;
 mod trail;
+mod watched;
+mod watched_propagation;
+mod watches;
 
 pub use searched::Searched;
 pub use solver::search;

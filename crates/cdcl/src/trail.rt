@@ -27,7 +27,7 @@ impl Model for Trail {
 }
 
 impl Trail {
-    ghost use Rattle.std.specs.Prelude.{◌≡◌, ◌<◌, ◌≤◌, ◌^◌, ◌∷◌, [], true, IfOk, OnOk, ◌++◌, IfSome, IfNone, false, reverse, length};
+    ghost use Rattle.std.specs.Prelude.{◌≡◌, ◌<◌, ◌≤◌, ◌^◌, ◌∷◌, [], true, IsTrue, IfOk, OnOk, ◌++◌, IfSome, IfNone, false, reverse, length};
     ghost use Rattle.std.specs.Bool.{MatchBool};
     ghost use Rattle.std.specs.Option.{option_to_list};
     ghost use Rattle.cnf_form.specs.Literals.{flip, has};
@@ -36,6 +36,8 @@ impl Trail {
     ghost use Rattle.cdcl.specs.Trail.{level_of, below, lits_of, mark_of, back_to};
     ghost use Rattle.cdcl.specs.Marks.{IsFull, AreValues};
     ghost use Rattle.cdcl.specs.Status.{IsValue};
+    ghost use Rattle.cdcl.specs.Jump.{IsLower, IsAt};
+    ghost use Rattle.cdcl.specs.Watch.{IsPlacedAt};
 
     /// A trail for so many variables, on which nothing is assigned.
     pub(crate) fn new(alloc: Global, vars: usize) -> Result<Trail, AllocError>
@@ -80,6 +82,29 @@ impl Trail {
         }
     }
 
+    pub(crate) fn is_true(&self, lit: Lit) -> bool
+        requires { lit.var < self.now.vars }
+        ensures { result ≡ has (lits_of self.now.entries) lit }
+    {
+        match self.value(lit) {
+            Some(true) => true,
+            Some(false) => false,
+            None => false,
+        }
+    }
+
+    pub(crate) fn is_false(&self, lit: Lit) -> bool
+        requires { lit.var < self.now.vars }
+        ensures { MatchBool result (has (lits_of self.now.entries) (flip lit) ≡ true)
+            (has (lits_of self.now.entries) (flip lit) ≡ false) }
+    {
+        match self.value(lit) {
+            Some(true) => false,
+            Some(false) => true,
+            None => false,
+        }
+    }
+
     /// Whether a false literal became so at the current level.
     pub(crate) fn is_current(&self, lit: Lit) -> bool
         requires in_range { lit.var < self.now.vars }
@@ -91,6 +116,46 @@ impl Trail {
             Some(mark) => mark.level == self.level,
             None => false,
         }
+    }
+
+    /// Whether a literal's variable was assigned at a level below the current one.
+    pub(crate) fn is_below(&self, lit: Lit) -> bool
+        requires { lit.var < self.now.vars }
+        ensures { MatchBool result (IsLower self.now.entries lit) (is_free (lits_of (below self.now.entries)) lit.var ≡ true) }
+    {
+        match self.mark(lit) {
+            Some(mark) => mark.level < self.level,
+            None => false,
+        }
+    }
+
+    /// Whether a literal's variable was assigned at this level.
+    pub(crate) fn is_at(&self, lit: Lit, level: usize) -> bool
+        requires { lit.var < self.now.vars }
+        ensures { MatchBool result (IsAt self.now.entries level lit) (IsAt self.now.entries level lit → ⊥) }
+    {
+        match self.mark(lit) {
+            Some(mark) => mark.level == level,
+            None => false,
+        }
+    }
+
+    /// Whether a literal's variable was assigned after a level.
+    pub(crate) fn is_above(&self, lit: Lit, level: usize) -> bool {
+        match self.marks.get(lit.var as usize) {
+            Some(Some(mark)) => mark.level > level,
+            _ => false,
+        }
+    }
+
+    /// Whether a variable has no value.
+    pub(crate) fn is_unset(&self, var: u32) -> bool
+        ensures { IsTrue result → (var < self.now.vars) × (is_free (lits_of self.now.entries) var ≡ true) }
+    {
+        if var as usize >= self.marks.len() {
+            return false;
+        }
+        self.marks[var as usize].is_none()
     }
 
     pub(crate) fn push(&mut self, entry: Entry) -> Result<(), AllocError>
@@ -108,6 +173,21 @@ impl Trail {
             level: self.level,
         });
         Ok(())
+    }
+
+    pub(crate) fn len(&self) -> usize
+        ensures { result ≡ length self.now.entries }
+    {
+        self.entries.len()
+    }
+
+    /// The literal that came at this place.
+    pub(crate) fn literal_at(&self, place: usize) -> Lit
+        requires { place < length self.now.entries }
+        ensures at { IsPlacedAt self.now.entries place result }
+        ensures low { result.var < self.now.vars }
+    {
+        self.entries[place].lit
     }
 
     /// What is assigned, the oldest first.

@@ -29,6 +29,6 @@ returns-clause-in_range c =
 pub returns-clause-trail : goal.returns-clause-trail
 returns-clause-trail c =
     let more = more_clauses c.args.clauses.now c.push.new.self c.args.line.now.clause c.lits-2.result.now c.in_ok-push.ensures.pushed c.lits-2.ensures.lits in
-    let jump = subst (λ (ls : List Lit). IsJump c.args.trail.now.entries ls c.jump_level-level.result) c.lits.ensures.lits c.jump_level-level.ensures in
+    let jump = subst (λ (ls : List Lit). IsJump c.args.trail.now.entries ls c.jump_level-level.result) c.lits.ensures.lits c.jump_level-level.ensures.jump in
     subst (λ (es : List Entry). IsTrail c.push.new.self es) (sym c.back_to.ensures.entries)
     (subst (λ (cs : List (List Lit)). IsTrail cs (back_to c.jump_level-level.result c.args.trail.now.entries)) (sym more) (IsTrail-learn c.args.clauses.now c.args.trail.now.entries c.args.line.now.clause c.jump_level-level.result c.requires.trail c.requires.learnt jump))

@@ -1,4 +1,4 @@
-use Rattle.std.proofs.Common.{◌≡◌, ℕ, true, List, length, Option, None, arith, sym, ◌∙◌, subst}
+use Rattle.std.proofs.Common.{◌≡◌, ℕ, true, List, length, Option, None, sym, ◌∙◌, subst}
 use Rattle.std.specs.Option.{MatchOption}
 use Rattle.cnf_form.specs.declared.lit.Lit.{Lit}
 use Rattle.cnf_form.specs.News.{are_quiet}
@@ -16,26 +16,26 @@ pub returns-then-level-eq0-clause-searched : goal.returns-then-level-eq0-clause-
 returns-then-level-eq0-clause-searched c =
     refuted c.args.cnf.now.vars c.args.cnf.now.clauses c.args.budget c.search.trail c.search.clauses c.search.log c.push.new.self c.in_ok-line-in-Some.line c.search.invariant c.in_ok-line-in-Some.ensures.derived (c.in_ok-line-in-Some.ensures.empty (sym c.level.ensures ∙ c.if-level-eq0.true)) c.in_ok-push-in-Some.ensures.pushed
 
-pub returns-then-len-budget-clause-searched : goal.returns-then-len-budget-clause-searched
-returns-then-len-budget-clause-searched c =
-    spent c.args.cnf.now.vars c.args.cnf.now.clauses c.args.budget c.search.trail c.propagate.new.trail c.search.clauses c.search.log c.in_ok-line-in-Some.line c.search.invariant c.in_ok-conflict.ensures.grows c.in_ok-line-in-Some.ensures.derived c.in_ok-line-in-Some.ensures.learnt (λ z. c.if-level-eq0.false (c.level.ensures ∙ z)) (let n = c.len.ensures in let m = c.if-len-budget.true in omega arith)
+pub returns-then-is_spent-clause-searched : goal.returns-then-is_spent-clause-searched
+returns-then-is_spent-clause-searched c =
+    spent c.args.cnf.now.vars c.args.cnf.now.clauses c.args.budget c.search.trail c.propagate.new.trail c.search.clauses c.search.log c.in_ok-line-in-Some.line c.search.invariant c.in_ok-conflict.ensures.grows c.in_ok-line-in-Some.ensures.derived c.in_ok-line-in-Some.ensures.learnt (λ z. c.if-level-eq0.false (c.level.ensures ∙ z)) c.if-is_spent.ensures
 
-pub returns-then-len-budget-clause-lean : goal.returns-then-len-budget-clause-lean
-returns-then-len-budget-clause-lean c = lean c.args.cnf.now.vars c.args.cnf.now.clauses c.args.budget c.search.log c.args.cnf.now.in_range
-    (spent c.args.cnf.now.vars c.args.cnf.now.clauses c.args.budget c.search.trail c.propagate.new.trail c.search.clauses c.search.log c.in_ok-line-in-Some.line c.search.invariant c.in_ok-conflict.ensures.grows c.in_ok-line-in-Some.ensures.derived c.in_ok-line-in-Some.ensures.learnt (λ z. c.if-level-eq0.false (c.level.ensures ∙ z)) (let n = c.len.ensures in let m = c.if-len-budget.true in omega arith))
+pub returns-then-is_spent-clause-lean : goal.returns-then-is_spent-clause-lean
+returns-then-is_spent-clause-lean c = lean c.args.cnf.now.vars c.args.cnf.now.clauses c.args.budget c.search.log c.args.cnf.now.in_range
+    (spent c.args.cnf.now.vars c.args.cnf.now.clauses c.args.budget c.search.trail c.propagate.new.trail c.search.clauses c.search.log c.in_ok-line-in-Some.line c.search.invariant c.in_ok-conflict.ensures.grows c.in_ok-line-in-Some.ensures.derived c.in_ok-line-in-Some.ensures.learnt (λ z. c.if-level-eq0.false (c.level.ensures ∙ z)) c.if-is_spent.ensures)
 
-pub returns-then-len-budget-clause-few : goal.returns-then-len-budget-clause-few
-returns-then-len-budget-clause-few c = few c.args.cnf.now.vars c.args.cnf.now.clauses c.args.budget c.search.log c.args.cnf.now.in_range
-    (spent c.args.cnf.now.vars c.args.cnf.now.clauses c.args.budget c.search.trail c.propagate.new.trail c.search.clauses c.search.log c.in_ok-line-in-Some.line c.search.invariant c.in_ok-conflict.ensures.grows c.in_ok-line-in-Some.ensures.derived c.in_ok-line-in-Some.ensures.learnt (λ z. c.if-level-eq0.false (c.level.ensures ∙ z)) (let n = c.len.ensures in let m = c.if-len-budget.true in omega arith))
+pub returns-then-is_spent-clause-few : goal.returns-then-is_spent-clause-few
+returns-then-is_spent-clause-few c = few c.args.cnf.now.vars c.args.cnf.now.clauses c.args.budget c.search.log c.args.cnf.now.in_range
+    (spent c.args.cnf.now.vars c.args.cnf.now.clauses c.args.budget c.search.trail c.propagate.new.trail c.search.clauses c.search.log c.in_ok-line-in-Some.line c.search.invariant c.in_ok-conflict.ensures.grows c.in_ok-line-in-Some.ensures.derived c.in_ok-line-in-Some.ensures.learnt (λ z. c.if-level-eq0.false (c.level.ensures ∙ z)) c.if-is_spent.ensures)
 
 pub search-smaller-in-Some : goal.search-smaller-in-Some
 search-smaller-in-Some c =
-    smaller-learned c.args.budget c.search.trail c.propagate.new.trail c.learn.new.trail c.search.clauses c.search.log c.learn.new.log c.in_ok-line-in-Some.line c.search.invariant.count (λ (z : length c.search.log ≡ c.args.budget). c.if-len-budget.false (let n = c.len.ensures in omega arith)) c.in_ok-conflict.ensures.grows c.in_ok-learn-in-Some.ensures.vars c.in_ok-learn-in-Some.ensures.log
+    smaller-learned c.args.budget c.search.trail c.propagate.new.trail c.learn.new.trail c.search.clauses c.search.log c.learn.new.log c.in_ok-line-in-Some.line c.search.invariant.count c.if-is_spent.ensures c.in_ok-conflict.ensures.grows c.in_ok-learn-in-Some.ensures.vars c.in_ok-learn-in-Some.ensures.log
 
 pub search-preserved-in-Some : goal.search-preserved-in-Some
 search-preserved-in-Some c =
     let e = c.in_ok-learn-in-Some.ensures in
-    learned c.args.cnf.now.vars c.args.cnf.now.clauses c.args.budget c.search.trail c.propagate.new.trail c.learn.new.trail c.search.clauses c.learn.new.clauses c.search.log c.learn.new.log c.in_ok-line-in-Some.line c.search.invariant c.in_ok-conflict.ensures.grows c.in_ok-line-in-Some.ensures.derived c.in_ok-line-in-Some.ensures.learnt (λ z. c.if-level-eq0.false (c.level.ensures ∙ z)) (λ (z : length c.search.log ≡ c.args.budget). c.if-len-budget.false (let n = c.len.ensures in omega arith)) e.vars e.clauses e.log e.in_range e.trail
+    learned c.args.cnf.now.vars c.args.cnf.now.clauses c.args.budget c.search.trail c.propagate.new.trail c.learn.new.trail c.search.clauses c.learn.new.clauses c.search.log c.learn.new.log c.in_ok-line-in-Some.line c.search.invariant c.in_ok-conflict.ensures.grows c.in_ok-line-in-Some.ensures.derived c.in_ok-line-in-Some.ensures.learnt (λ z. c.if-level-eq0.false (c.level.ensures ∙ z)) c.if-is_spent.ensures e.vars e.clauses e.log e.in_range e.trail
 
 pub search-smaller : goal.search-smaller
 search-smaller c =
