@@ -1,0 +1,10 @@
+pub mod ByteLaws
+pub mod PartLaws
+pub mod NodeLaws
+pub mod Rightness
+pub mod Operands
+pub mod Cones
+pub mod Walks
+pub mod Visits
+pub mod Wiring
+pub mod SpellingLaws
