@@ -1,0 +1,4 @@
+pub mod Questions
+pub mod Copies
+pub mod Beginning
+pub mod Variables

@@ -1,0 +1,68 @@
+//! A question made of expressions.
+ghost use Rattle.std.specs.Prelude.{◌≡◌, IfOk};
+ghost use Rattle.bv_expr.specs.Nodes.{HasWidth};
+
+use super::*;
+use bv_expr::{Arena, ExprId, QNode};
+use ct_words::{AluOp, Cond};
+use std::alloc::{AllocError, Global};
+use std::test::Fail;
+
+// Whether input bytes 1 and 0 are equal as words. Their sum is there too.
+fn are_equal(arena: &mut Arena) -> Result<ExprId, AllocError>
+    ensures { IfOk result (λ id. HasWidth arena.new id.0 1) }
+{
+    let first = arena.input(0)?;
+    let second = arena.input(1)?;
+    let zero = arena.constant(8, 0)?;
+    let left = arena.join(second, zero, zero, zero)?;
+    let right = arena.join(first, zero, zero, zero)?;
+    arena.alu(AluOp::Add, left, right)?;
+    arena.test(Cond::Eq, left, right)
+}
+
+// Whether they are, and are not, and are, and are not.
+fn contradiction(alloc: Global, arena: &mut Arena) -> Result<Question, Fail> {
+    let equal = are_equal(arena)?;
+    let different = arena.not(equal)?;
+    if !are_variables_below(arena.nodes(), 2) {
+        return Err(Fail::from("another variable"));
+    }
+    let question = question_of(alloc, arena, 2, &[equal, different, equal], different)?;
+    Ok(question)
+}
+
+#[test]
+fn nodes_are_numbered_by_first_visit(rt: HostRuntime) -> Result<(), Fail> {
+    let alloc = rt.alloc();
+    let mut arena = Arena::new(alloc)?;
+    let question = contradiction(alloc, &mut arena)?;
+    let nodes = [
+        QNode::Input { variable: 1 },
+        QNode::Constant { width: 8, value: 0 },
+        QNode::Join {
+            b0: 0,
+            b1: 1,
+            b2: 1,
+            b3: 1,
+        },
+        QNode::Input { variable: 0 },
+        QNode::Join {
+            b0: 3,
+            b1: 1,
+            b2: 1,
+            b3: 1,
+        },
+        QNode::Test {
+            cond: Cond::Eq,
+            a: 2,
+            b: 4,
+        },
+        QNode::Not { a: 5 },
+    ];
+    assert_eq!(rt; question.vars(), 2);
+    assert_eq!(rt; question.nodes(), nodes.as_slice());
+    assert_eq!(rt; question.conjuncts(), [5, 6].as_slice());
+    assert_eq!(rt; question.asked(), 6);
+    Ok(())
+}
