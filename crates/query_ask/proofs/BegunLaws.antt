@@ -23,7 +23,7 @@ all_head : (P : ℕ → Type 0) (x : ℕ) (xs : List ℕ) → All P (x ∷ xs) �
 all_head P x xs h = h 0 x (omega arith)
 
 -- tests that agree on all elements
-all_same : (p q : ℕ → Bool) (xs : List ℕ) → All (λ x. p x ≡ q x) xs → list_all p xs ≡ list_all q xs
+pub all_same : (p q : ℕ → Bool) (xs : List ℕ) → All (λ x. p x ≡ q x) xs → list_all p xs ≡ list_all q xs
 all_same p q [] h = refl
 all_same p q (x ∷ xs) h = rw (all_head (λ x. p x ≡ q x) x xs h) (ap (λ (b : Bool). q x && b) (all_same p q xs (all_rest (λ x. p x ≡ q x) x xs h)))
 
@@ -31,7 +31,7 @@ and_true : (b : Bool) → (b && true) ≡ b
 and_true true = refl
 and_true false = refl
 
-one_more : (p : ℕ → Bool) (xs : List ℕ) (x : ℕ) → list_all p (xs ++ x ∷ []) ≡ (list_all p xs && p x)
+pub one_more : (p : ℕ → Bool) (xs : List ℕ) (x : ℕ) → list_all p (xs ++ x ∷ []) ≡ (list_all p xs && p x)
 one_more p xs x = list_all-append p xs (x ∷ []) ∙ ap (λ (b : Bool). list_all p xs && b) (and_true (p x))
 
 and_in : (a b c : Bool) → (b ≡ (b && c)) → (a && b) ≡ ((a && b) && c)

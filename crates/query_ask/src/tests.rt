@@ -1,4 +1,4 @@
-//! A question made of expressions.
+//! Questions made of expressions, and their answers.
 ghost use Rattle.std.specs.Prelude.{◌≡◌, IfOk};
 ghost use Rattle.bv_expr.specs.Nodes.{HasWidth};
 
@@ -64,5 +64,56 @@ fn nodes_are_numbered_by_first_visit(rt: HostRuntime) -> Result<(), Fail> {
     assert_eq!(rt; question.nodes(), nodes.as_slice());
     assert_eq!(rt; question.conjuncts(), [5, 6].as_slice());
     assert_eq!(rt; question.asked(), 6);
+    Ok(())
+}
+
+// Whether the square of input byte 0, as a word, is a number.
+fn is_square(arena: &mut Arena, number: u32) -> Result<ExprId, AllocError>
+    ensures { IfOk result (λ id. HasWidth arena.new id.0 1) }
+{
+    let byte = arena.input(0)?;
+    let zero = arena.constant(8, 0)?;
+    let word = arena.join(byte, zero, zero, zero)?;
+    let square = arena.alu(AluOp::Mul, word, word)?;
+    let other = arena.constant(32, number)?;
+    arena.test(Cond::Eq, square, other)
+}
+
+fn square_question(alloc: Global, number: u32) -> Result<Question, Fail> {
+    let mut arena = Arena::new(alloc)?;
+    let equal = is_square(&mut arena, number)?;
+    if !are_variables_below(arena.nodes(), 1) {
+        return Err(Fail::from("another variable"));
+    }
+    let question = question_of(alloc, &arena, 1, &[equal], equal)?;
+    Ok(question)
+}
+
+fn name(answer: &Answer) -> &'static str {
+    match answer {
+        Answer::Yes(_) => "yes",
+        Answer::No(_) => "no",
+        Answer::Tried(_, _) => "tried",
+        Answer::Spent(_, _) => "spent",
+    }
+}
+
+#[test]
+fn a_square_has_its_root(rt: HostRuntime) -> Result<(), Fail> {
+    let question = square_question(rt.alloc(), 49)?;
+    match ask(rt.alloc(), &question, 1_000_000)? {
+        Answer::Yes(values) => assert_eq!(rt; values.byte(0), 7),
+        _ => return Err(Fail::from("no root of 49")),
+    }
+    Ok(())
+}
+
+// No byte has the square 50, by the search or by trying all of them.
+#[test]
+fn no_byte_has_another_square(rt: HostRuntime) -> Result<(), Fail> {
+    let question = square_question(rt.alloc(), 50)?;
+    assert_eq!(rt; name(&ask(rt.alloc(), &question, 1_000_000)?), "no");
+    let few = name(&ask(rt.alloc(), &question, 256)?);
+    assert!(rt; few == "no" || few == "tried");
     Ok(())
 }
