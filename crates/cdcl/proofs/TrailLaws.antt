@@ -208,10 +208,6 @@ IsKept-pop marks level less entries front e k at l =
     go None l h = omega arith
     go (Some n) l h = l ∙ h
 
-pub level-nonempty : (es : List Entry) → 0 < level_of es → 0 < length es
-level-nonempty [] low = absurd (omega arith)
-level-nonempty (e ∷ es) low = omega arith
-
 -- a step back
 pub back_to-pop : (level : ℕ) (e : Entry) (es : List Entry) → level < level_of (e ∷ es) → back_to level (e ∷ es) ≡ back_to level es
 back_to-pop level e es low = cond-true _ _ _ (lt-ltb _ _ low)

@@ -22,8 +22,7 @@ use std::alloc::{AllocError, Global};
 
 /// Looks for a solution, and learns at most `budget` lines.
 ///
-/// A formula of more than `laws::MOST_VARS` variables wants memory. Equal formulas and budgets give
-/// equal answers.
+/// A formula of more than `laws::MOST_VARS` variables wants memory. Nothing random enters.
 pub fn search(alloc: Global, cnf: &Cnf, budget: u64) -> Result<Searched, AllocError>
     ensures searched { IfOk result (IsSearched cnf.now.vars cnf.now.clauses budget) }
     ensures lean { IfOk result (OnSpent (AreLean cnf.now.clauses)) }

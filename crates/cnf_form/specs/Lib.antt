@@ -9,3 +9,4 @@ pub mod News
 pub mod Spent
 pub mod Encoding
 pub mod Writing
+pub mod Solvable

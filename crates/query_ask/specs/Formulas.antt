@@ -8,6 +8,7 @@ use Rattle.bit_blast.specs.Spelling.{spelled}
 use Rattle.cnf_form.specs.declared.cnf.Cnf.{Cnf}
 use Rattle.cnf_form.specs.Encoding.{gate_value}
 use Rattle.cnf_form.specs.Solutions.{are_met}
+use Rattle.cnf_form.specs.Solvable.{HasSolution}
 use Rattle.query_ask.specs.declared.formula.Formula.{Formula}
 use Rattle.query_ask.specs.Questions.{Asked, meets}
 
@@ -16,12 +17,6 @@ pub record CanBeMet (q : Asked) : Type 0 where
   pub env : ℕ → ℕ
   pub bytes : AreBytes env
   pub met : meets env q ≡ true
-
--- a solution of a formula
-pub record HasSolution (cnf : Cnf) : Type 0 where
-  pub values : List Bool
-  pub count : length values ≡ cnf.vars
-  pub met : are_met values cnf.clauses ≡ true
 
 -- the formula has a solution exactly where the question has one, and not too many variables
 pub record IsFormulaOf (q : Asked) (cnf : Cnf) : Type 0 where
