@@ -6,3 +6,5 @@ pub mod PlacingLaws
 pub mod MeetingLaws
 pub mod TryingLaws
 pub mod RefutingLaws
+pub mod VerdictLaws
+pub mod PartLaws

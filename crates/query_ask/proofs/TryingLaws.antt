@@ -58,7 +58,7 @@ occur_longer nodes n variables all i d lt =
     let was = all i d lt in
     record { at = was.at; here = in_longer nodes (n ∷ []) was.at (Input (get_or variables i d)) was.here }
 
-Contains-longer : (xs : List ℕ) (y x : ℕ) → Contains xs x → Contains (xs ++ y ∷ []) x
+pub Contains-longer : (xs : List ℕ) (y x : ℕ) → Contains xs x → Contains (xs ++ y ∷ []) x
 Contains-longer xs y x c = (c.0, omega (arith, c.1, length_push xs y), get_or_append_left xs (y ∷ []) x c.0 c.1 ∙ c.2)
 
 last_input : (nodes : List QNode) (x : ℕ) → slice_get (nodes ++ Input x ∷ []) (length nodes) ≡ Some (Input x)

@@ -6,3 +6,5 @@ pub mod Formulas
 pub mod Placing
 pub mod Answers
 pub mod Trying
+pub mod Verdicts
+pub mod Parts

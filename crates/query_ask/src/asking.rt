@@ -1,57 +1,52 @@
 //! The answer to a question.
-ghost use Rattle.std.specs.Prelude.{◌≡◌, Bool, true, List, IfOk, OnSome};
-ghost use Rattle.cnf_form.specs.Derivation.{IsRefutation};
-ghost use Rattle.cnf_form.specs.Solutions.{are_met};
+ghost use Rattle.std.specs.Prelude.{IfOk};
 ghost use Rattle.cnf_form.specs.Spent.{IsSpent};
 ghost use Rattle.query_ask.specs.Formulas.{IsFormulaOf};
-ghost use Rattle.query_ask.specs.Answers.{DoMeet, IsAnswer};
+ghost use Rattle.query_ask.specs.Answers.{IsAnswer};
 
 use crate::answer::Answer;
-use crate::formula::{Formula, formula_of};
+use crate::attempt::{Attempt, search_for};
+use crate::guesses::try_guesses;
+use crate::parts::ask_parts;
 use crate::question::Question;
 use crate::trying::{are_few, try_all, variables_of};
-use crate::values_of::values_of;
-use cdcl::{Searched, search};
 use cnf_form::{Cnf, Log};
-use proof_check::{Refutation, Rejected, accept};
 use std::alloc::{AllocError, Global};
 
 /// Whether some bytes meet a question, where a search may learn at most `budget` lines.
 ///
 /// Where the search is spent, all valuations of the question's variables are tried if they are no more than
-/// the budget. Equal questions and budgets give equal answers.
+/// the budget. Nothing random enters.
+///
+/// Cheap answers come first. Eight fixed valuations are tried, each in time in proportion to the nodes. Then
+/// the asked node is searched with the last conjunct alone, and with those that the values found break: at most
+/// eight searches of at most 300 lines, whose cost grows with the nodes on which these conjuncts depend, and one
+/// copy of the nodes. Only then is the whole question searched, whose formula has up to 32,768 variables for
+/// each node, most of them for products and divisions. Nothing is kept from one call to the next.
 pub fn ask(alloc: Global, question: &Question, budget: u64) -> Result<Answer, AllocError>
     ensures { IfOk result (IsAnswer question.now budget) }
 {
-    let formula = formula_of(alloc, question)?;
-    match search(alloc, &formula.cnf, budget)? {
-        Searched::Solved(found) => {
-            let values = values_of(alloc, question, &formula, &found)?;
-            Ok(Answer::Yes(values))
-        }
-        Searched::Refuted(log) => {
-            let Formula { cnf, .. } = formula;
-            let refutation = refuted(alloc, cnf, log)?;
-            Ok(Answer::No(refutation))
-        }
-        Searched::Spent(log) => {
-            let Formula { cnf, .. } = formula;
+    if let Some(values) = try_guesses(alloc, question)? {
+        return Ok(Answer::Yes(values));
+    }
+    if let Some(answer) = ask_parts(alloc, question, budget)? {
+        return Ok(answer);
+    }
+    let answer = ask_whole(alloc, question, budget)?;
+    Ok(answer)
+}
+
+// The answer by a search for the whole question.
+fn ask_whole(alloc: Global, question: &Question, budget: u64) -> Result<Answer, AllocError>
+    ensures { IfOk result (IsAnswer question.now budget) }
+{
+    match search_for(alloc, question, budget)? {
+        Attempt::Met(values) => Ok(Answer::Yes(values)),
+        Attempt::Refuted(refutation) => Ok(Answer::No(refutation)),
+        Attempt::Spent(cnf, log) => {
             let answer = after_spent(alloc, question, cnf, log, budget)?;
             Ok(answer)
         }
-    }
-}
-
-// The refutation that a search found.
-fn refuted(alloc: Global, cnf: Cnf, log: Log) -> Result<Refutation, AllocError>
-    requires { IsRefutation cnf.clauses log }
-    ensures { IfOk result (λ _. (values : List Bool) → are_met values cnf.clauses ≡ true → ⊥) }
-{
-    match accept(alloc, cnf, log) {
-        Ok(refutation) => Ok(refutation),
-        Err(Rejected::Memory) => Err(AllocError),
-        Err(Rejected::BadLine(_)) => unreachable!(),
-        Err(Rejected::NotEmpty) => unreachable!(),
     }
 }
 

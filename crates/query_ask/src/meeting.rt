@@ -8,7 +8,7 @@ use crate::question::Question;
 use bv_expr::Values;
 use std::alloc::AllocError;
 
-/// Whether values meet a question. Each node is evaluated once, into `results`.
+/// Whether values meet a question. Each node is evaluated once, into `results`, where its value stays.
 pub(crate) fn meets(
     question: &Question,
     values: &Values,
@@ -41,7 +41,8 @@ fn are_true(results: &[u32], numbers: &[usize]) -> bool
     numbers.iter().all(|number| is_true(results, *number))
 }
 
-fn is_true(results: &[u32], number: usize) -> bool
+/// Whether the result of a node is 1.
+pub(crate) fn is_true(results: &[u32], number: usize) -> bool
     ensures { result ≡ (slice_index results.now number == 1) }
 {
     if number < results.len() {

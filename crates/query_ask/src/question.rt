@@ -67,6 +67,25 @@ impl Question {
         self.asked
     }
 
+    /// The question about the same nodes with other conjuncts.
+    pub(crate) fn with_conjuncts(self, conjuncts: Row<usize>) -> Question
+        requires { IsQuestion (record { vars = self.vars; nodes = self.nodes; conjuncts = conjuncts; asked = self.asked }) }
+        ensures { result ≡ record { vars = self.vars; nodes = self.nodes; conjuncts = conjuncts; asked = self.asked } }
+    {
+        let Question {
+            vars,
+            nodes,
+            asked,
+            ..
+        } = self;
+        Question {
+            vars,
+            nodes,
+            conjuncts,
+            asked,
+        }
+    }
+
     /// Law: every question is well formed.
     pub fn law(&self)
         ensures { IsQuestion self.now }

@@ -1,5 +1,5 @@
 //! Questions made of expressions, and their answers.
-ghost use Rattle.std.specs.Prelude.{◌≡◌, IfOk};
+ghost use Rattle.std.specs.Prelude.{◌≡◌, true, All, IfOk};
 ghost use Rattle.bv_expr.specs.Nodes.{HasWidth};
 
 use super::*;
@@ -98,6 +98,14 @@ fn name(answer: &Answer) -> &'static str {
     }
 }
 
+// Whether the question's verdict is kept beside it.
+fn is_kept(alloc: Global, question: Question, budget: u64) -> Result<bool, AllocError> {
+    let answer = ask(alloc, &question, budget)?;
+    answer.law(&question, budget);
+    let checked = answer.checked(alloc, question)?;
+    Ok(checked.is_some())
+}
+
 #[test]
 fn a_square_has_its_root(rt: HostRuntime) -> Result<(), Fail> {
     let question = square_question(rt.alloc(), 49)?;
@@ -105,6 +113,7 @@ fn a_square_has_its_root(rt: HostRuntime) -> Result<(), Fail> {
         Answer::Yes(values) => assert_eq!(rt; values.byte(0), 7),
         _ => return Err(Fail::from("no root of 49")),
     }
+    assert!(rt; is_kept(rt.alloc(), question, 1_000_000)?);
     Ok(())
 }
 
@@ -115,5 +124,88 @@ fn no_byte_has_another_square(rt: HostRuntime) -> Result<(), Fail> {
     assert_eq!(rt; name(&ask(rt.alloc(), &question, 1_000_000)?), "no");
     let few = name(&ask(rt.alloc(), &question, 256)?);
     assert!(rt; few == "no" || few == "tried");
+    assert!(rt; is_kept(rt.alloc(), question, 256)?);
+    Ok(())
+}
+
+// Whether an input byte is above a number.
+fn is_above(arena: &mut Arena, input: usize, number: u32) -> Result<ExprId, AllocError> {
+    let byte = arena.input(input)?;
+    let zero = arena.constant(8, 0)?;
+    let word = arena.join(byte, zero, zero, zero)?;
+    let bound = arena.constant(32, number)?;
+    arena.test(Cond::Ltu, bound, word)
+}
+
+fn is_bit(arena: &Arena, id: ExprId) -> bool
+    ensures { result ≡ true → HasWidth arena.now id.0 1 }
+{
+    if id.0 < arena.nodes().len() {
+        arena.width(id) == 1
+    } else {
+        false
+    }
+}
+
+fn are_bits(arena: &Arena, ids: &[ExprId]) -> bool
+    ensures { result ≡ true → All (λ id. HasWidth arena.now id.0 1) ids.now }
+{
+    for id in ids {
+        if !is_bit(arena, *id) {
+            return false;
+        }
+    }
+    true
+}
+
+// A question about three variables.
+fn question(
+    alloc: Global,
+    arena: &Arena,
+    conjuncts: &[ExprId],
+    asked: ExprId,
+) -> Result<Question, Fail> {
+    if !are_variables_below(arena.nodes(), 3) {
+        return Err(Fail::from("another variable"));
+    }
+    if !is_bit(arena, asked) {
+        return Err(Fail::from("no bit"));
+    }
+    if !are_bits(arena, conjuncts) {
+        return Err(Fail::from("no bit"));
+    }
+    let question = question_of(alloc, arena, 3, conjuncts, asked)?;
+    Ok(question)
+}
+
+// Whether bytes 0 to 2 are above 100, 5 and 7, and byte 0 isn't above another number.
+fn between(alloc: Global, most: u32) -> Result<Question, Fail> {
+    let mut arena = Arena::new(alloc)?;
+    let first = is_above(&mut arena, 0, 100)?;
+    let second = is_above(&mut arena, 1, 5)?;
+    let third = is_above(&mut arena, 2, 7)?;
+    let above = is_above(&mut arena, 0, most)?;
+    if !is_bit(&arena, above) {
+        return Err(Fail::from("no bit"));
+    }
+    let asked = arena.not(above)?;
+    let question = question(alloc, &arena, &[first, second, third], asked)?;
+    Ok(question)
+}
+
+// The last conjunct alone leaves both questions open, and so do the fixed valuations.
+#[test]
+fn conjuncts_are_added(rt: HostRuntime) -> Result<(), Fail> {
+    let never = between(rt.alloc(), 50)?;
+    assert_eq!(rt; name(&ask(rt.alloc(), &never, 1_000_000)?), "no");
+    let question = between(rt.alloc(), 110)?;
+    match ask(rt.alloc(), &question, 1_000_000)? {
+        Answer::Yes(values) => {
+            let first = values.byte(0);
+            assert!(rt; first > 100 && first <= 110);
+            assert!(rt; values.byte(1) > 5 && values.byte(2) > 7);
+        }
+        _ => return Err(Fail::from("no bytes")),
+    }
     Ok(())
 }

@@ -1,5 +1,5 @@
 use Rattle.query_ask.proofs.RefutingLaws.{never_bad}
-use Rattle.query_ask.proofs.asking.refuted.Goals as goal
+use Rattle.query_ask.proofs.attempt.refuted.Goals as goal
 
 pub unreachable-requires : goal.unreachable-requires
 unreachable-requires c =
