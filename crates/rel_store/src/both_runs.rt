@@ -66,6 +66,7 @@ fn chosen(arena: &mut Arena, when: ExprId, yes: ExprId, no: ExprId) -> Result<Ex
     requires no { HasWidth arena.old no.0 8 }
     ensures value { IfOk result (λ id. (env v : ℕ → ℕ) → IsValuation env v arena.new → v id.0 ≡ (if v when.0 == 0 then v no.0 else v yes.0)) }
     ensures width { IfOk result (λ id. HasWidth arena.new id.0 8) }
+    ensures equal { (yes ≡ no) → arena.new ≡ arena.old }
     ensures extends { Extends arena.old arena.new 1 }
     ensures no_input { AddsNoInput arena.old arena.new }
 {
@@ -90,6 +91,7 @@ pub fn choose(
     ensures value { IfOk result (λ r. (env v : ℕ → ℕ) → IsValuation env v arena.new → (right : Bool) → v (side_id right r) ≡ (if v when.0 == 0 then v (side_id right no) else v (side_id right yes))) }
     ensures width { IfOk result (HasSides arena.new 8) }
     ensures same { IfOk result (λ r. IsSame yes → IsSame no → IsSame r) }
+    ensures equal { (yes ≡ no) → arena.new ≡ arena.old }
     ensures extends { Extends arena.old arena.new 2 }
     ensures no_input { AddsNoInput arena.old arena.new }
 {
