@@ -1,0 +1,4 @@
+pub mod Contents
+pub mod Log
+pub mod Selecting
+pub mod Spanning
