@@ -1,0 +1,4 @@
+pub mod Examples
+pub mod ListLaws
+pub mod PoolLaws
+pub mod RoomLaws
