@@ -1,0 +1,14 @@
+pub mod Runs
+pub mod Strides
+pub mod Plans
+pub mod Bridge
+pub mod PathNodes
+pub mod Keeping
+pub mod Following
+pub mod Building
+pub mod Asking
+pub mod Placing
+pub mod Finding
+pub mod Onward
+pub mod Plain
+pub mod Accesses
