@@ -1,3 +1,4 @@
+pub mod Exact
 pub mod PhaseLemmas
 pub mod PhaseExamples
 pub mod Completing

@@ -9,7 +9,7 @@ use ct_report::{Finding, Outcome};
 /// How a call of the program ended.
 #[derive(Debug, Drop)]
 pub struct Finished {
-    /// The exit status: 0 secure, or a whole trace or list; 1 insecure; and from 64 on a refusal's.
+    /// The exit status: 0 secure, or a whole trace or list; 1 insecure; 2 unknown; and from 64 on a refusal's.
     pub status: u8,
     /// What the check found, where it ran to its end.
     pub outcome: Option<Outcome>,
@@ -55,5 +55,6 @@ fn finding_status(finding: Finding) -> u8
     match finding {
         Finding::Secure => 0,
         Finding::Insecure => 1,
+        Finding::Unknown => 2,
     }
 }

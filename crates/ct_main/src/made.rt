@@ -32,7 +32,8 @@ fn check(alloc: Global, job: &Job) -> Result<Outcome, AllocError>
     requires { HasOneSecret job.now }
     ensures { IfOk result (IsOutcomeOf job.now) }
 {
-    Ok(Outcome::from(byte_check(alloc, job)?))
+    let table = byte_check(alloc, job)?;
+    Ok(Outcome::of_table(alloc, table))
 }
 
 /// The whole report of a job and of the outcome of its check.

@@ -1,2 +1,4 @@
 pub mod Kind
 pub mod Report
+pub mod Places
+pub mod Outcomes

@@ -7,29 +7,33 @@ use Rattle.rv_image.specs.Cell.{Cell}
 use Rattle.ct_pairs.specs.declared.job.Job.{Job}
 use Rattle.ct_pairs.specs.declared.found.Found.{Found}
 use Rattle.ct_pairs.specs.declared.byte_table.ByteTable.{ByteTable}
+use Rattle.ct_entries.specs.declared.listed.Listed.{Listed}
 use Rattle.ct_report.specs.declared.outcome.Outcome.{Outcome}
 use Rattle.ct_report.specs.declared.finding.Finding.{Finding}
-use Rattle.ct_report.specs.declared.finding.Finding.TheVariants.{Secure, Insecure}
+use Rattle.ct_report.specs.declared.finding.Finding.TheVariants.{Secure, Insecure, Unknown}
 use Rattle.rv_decode.specs.Text.{address_text, text_value}
 use Rattle.ct_texts.specs.Bytes.{bytes_text}
 use Rattle.ct_report.specs.Kind.{kind_of, kind_name, instruction_at, HasKind}
+use Rattle.ct_report.specs.Places.{place_line}
 use Rattle.ct_rows.specs.Lines.{line}
 
--- a routine is secure where no site was found
+-- a routine is insecure where some site was found, and else secure where no question was left open
 abbrev pub finding_of : Outcome → Finding
-finding_of outcome = of_sites outcome.sites where
-  of_sites : List Found → Finding
-  of_sites [] = Secure
-  of_sites (found ∷ sites) = Insecure
+finding_of outcome = of_both outcome.sites outcome.listed where
+  of_both : List Found → List Listed → Finding
+  of_both [] [] = Secure
+  of_both [] (place ∷ listed) = Unknown
+  of_both (found ∷ sites) listed = Insecure
 
 -- the word of a finding
 abbrev pub finding_name : Finding → List ℕ
 finding_name Secure = codes "secure"
 finding_name Insecure = codes "insecure"
+finding_name Unknown = codes "unknown"
 
 -- the outcome of a check of all pairs, which leaves nothing open
 abbrev pub outcome_of : ByteTable → Outcome
-outcome_of table = record { sites = table.sites; doubts = 0; paths = table.paths }
+outcome_of table = record { sites = table.sites; listed = []; doubts = 0; paths = table.paths }
 
 -- the image has at each site an instruction with a kind
 abbrev pub SitesHaveKinds : Job → List Found → Type 0
@@ -65,4 +69,5 @@ report_of job outcome =
     ++ line (codes "doubts " ++ decimal outcome.doubts)
     ++ line (codes "sites " ++ decimal (length outcome.sites))
     ++ flat_map (site_lines job.image) outcome.sites
-    ++ line (codes "places 0")
+    ++ line (codes "places " ++ decimal (length outcome.listed))
+    ++ flat_map (place_line job) outcome.listed

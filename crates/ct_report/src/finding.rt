@@ -8,6 +8,8 @@ pub enum Finding {
     Secure,
     /// Some pair of starts can be told apart.
     Insecure,
+    /// No such pair was found, and some question was left open.
+    Unknown,
 }
 
 impl Finding {
@@ -19,6 +21,7 @@ impl Finding {
         match self {
             Finding::Secure => "secure",
             Finding::Insecure => "insecure",
+            Finding::Unknown => "unknown",
         }
     }
 }

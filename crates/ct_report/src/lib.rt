@@ -1,13 +1,16 @@
 //! The report of a check: what it found, as a text of lines.
 #![tactic(auto)]
 
+mod ascending;
 mod finding;
 mod kind;
 mod laws;
 mod lines;
 mod outcome;
+mod place;
 mod report;
 mod site;
+mod turns;
 
 pub use finding::Finding;
 pub use kind::Kind;

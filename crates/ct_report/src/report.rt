@@ -4,6 +4,7 @@ ghost use Rattle.ct_report.specs.Report.{SitesHaveKinds, report_of};
 
 use crate::lines::push_number_line;
 use crate::outcome::Outcome;
+use crate::place::push_places;
 use crate::site::{has_kind, push_sites};
 use ct_pairs::{Found, Job};
 use ct_rows::Text;
@@ -18,7 +19,7 @@ pub fn can_report(job: &Job, sites: &[Found]) -> bool
 }
 
 /// The report of a job and of what a check of it found. Time and memory grow with the sites and with
-/// the values of their pairs.
+/// the values of their pairs, and with the control paths of open questions.
 #[tactic(auto, unfolding(crate::specs::Report::report_of))]
 pub fn report_text(alloc: Global, job: &Job, outcome: &Outcome) -> Result<Text, AllocError>
     requires { SitesHaveKinds job.now outcome.now.sites }
@@ -31,6 +32,7 @@ pub fn report_text(alloc: Global, job: &Job, outcome: &Outcome) -> Result<Text, 
     push_number_line(&mut text, "doubts", outcome.doubts)?;
     push_number_line(&mut text, "sites", outcome.sites.len() as u128)?;
     push_sites(alloc, &mut text, &job.image, outcome.sites.as_slice())?;
-    text.push_str("places 0\n")?;
+    push_number_line(&mut text, "places", outcome.listed.len() as u128)?;
+    push_places(alloc, &mut text, job, outcome.listed.as_slice())?;
     Ok(Text::from_string(text))
 }

@@ -2,6 +2,8 @@
 ghost use Rattle.std.specs.Prelude.{◌≤◌, length};
 
 use crate::{Finding, Outcome, can_report, report_text};
+use cnf_form::{Clause, Cnf, Line, Log};
+use ct_entries::{Cause, Listed, Seen};
 use ct_pairs::{Found, Job, Pair, byte_job};
 use ct_rows::Row;
 use elf_load::{Elf, Segment};
@@ -59,12 +61,14 @@ fn assert_report(
     alloc: Global,
     job: &Job,
     sites: Vec<Found>,
+    listed: Vec<Listed>,
     (paths, doubts): (u128, u128),
     finding: Finding,
     report: &str,
 ) -> Result<(), Fail> {
     let outcome = Outcome {
         sites: Row::from_vec(sites),
+        listed: Row::from_vec(listed),
         doubts,
         paths,
     };
@@ -94,6 +98,7 @@ fn reports(rt: HostRuntime) -> Result<(), Fail> {
         alloc,
         &job(alloc, &RETURN, 10)?,
         Vec::new(alloc),
+        Vec::new(alloc),
         (1, 0),
         Finding::Secure,
         "ctrel report 1\nverdict secure\nbound 10\npaths 1\ndoubts 0\nsites 0\nplaces 0\n",
@@ -103,6 +108,7 @@ fn reports(rt: HostRuntime) -> Result<(), Fail> {
         alloc,
         &job(alloc, &BRANCH, 10)?,
         vec![in alloc; found(alloc, 0x0001_0054, 1, &[], &[0], &[1])?]?,
+        Vec::new(alloc),
         (2, 0),
         Finding::Insecure,
         "ctrel report 1\nverdict insecure\nbound 10\npaths 2\ndoubts 0\nsites 1\n\
@@ -113,6 +119,7 @@ fn reports(rt: HostRuntime) -> Result<(), Fail> {
         alloc,
         &job(alloc, &LOAD, 10)?,
         vec![in alloc; found(alloc, 0x0001_0054, 1, &[], &[0], &[1])?]?,
+        Vec::new(alloc),
         (1, 0),
         Finding::Insecure,
         "ctrel report 1\nverdict insecure\nbound 10\npaths 1\ndoubts 0\nsites 1\n\
@@ -125,10 +132,87 @@ fn reports(rt: HostRuntime) -> Result<(), Fail> {
         alloc,
         &job(alloc, &STORE, 100)?,
         vec![in alloc; first, second]?,
+        Vec::new(alloc),
         (340_282_366_920_938_463_463_374_607_431_768_211_455, 7),
         Finding::Insecure,
         "ctrel report 1\nverdict insecure\nbound 100\npaths 340282366920938463463374607431768211455\ndoubts 7\nsites 2\n\
          site 0x00010054 step 12 store sw a1, -4(a0)\nshared 07ff\nleft a0\nright 9b\n\
          site 0x00010058 step 3 jump jalr zero, 0(ra)\nshared 10\nleft -\nright -\nplaces 0\n",
+    )
+}
+
+/// A log of one line.
+fn log(alloc: Global) -> Result<Log, AllocError> {
+    let mut log = Log::new(alloc);
+    log.push(&Line {
+        clause: Clause::from_vec(Vec::new(alloc)),
+        chain: Row::from_vec(Vec::new(alloc)),
+    })?;
+    Ok(log)
+}
+
+fn words(alloc: Global, words: &[u32]) -> Result<Row<u32>, AllocError> {
+    Ok(Row::from_vec(Vec::from_slice(alloc, words)?))
+}
+
+fn seen(alloc: Global, next: u32) -> Result<Seen, AllocError> {
+    let pair = Pair {
+        shared: row(alloc, &[])?,
+        left: row(alloc, &[0])?,
+        right: row(alloc, &[1])?,
+    };
+    Ok(Seen { next, pair })
+}
+
+fn listed(alloc: Global, path: &[u32], cause: Cause) -> Result<Listed, AllocError> {
+    Ok(Listed {
+        path: words(alloc, path)?,
+        cause,
+    })
+}
+
+#[test]
+fn reports_open_questions(rt: HostRuntime) -> Result<(), Fail> {
+    let alloc = rt.alloc();
+    let leak = Cause::SpentLeak {
+        cnf: Cnf::new(alloc, 0),
+        log: Log::new(alloc),
+    };
+    let next = Cause::SpentNext {
+        explored: words(alloc, &[0x0002_0000, 0x10, 0x0002_0000])?,
+        cnf: Cnf::new(alloc, 0),
+        log: log(alloc)?,
+    };
+    let none = Cause::SpentNext {
+        explored: words(alloc, &[])?,
+        cnf: Cnf::new(alloc, 0),
+        log: Log::new(alloc),
+    };
+    let over = Cause::Over {
+        seen: Row::from_vec(vec![in alloc;
+            seen(alloc, 0x20)?,
+            seen(alloc, 0xffff_fffc)?,
+            seen(alloc, 0)?,
+        ]?),
+    };
+    let places = vec![in alloc;
+        listed(alloc, &[], leak)?,
+        listed(alloc, &[0x0001_0058], none)?,
+        listed(alloc, &[0x0001_005c], next)?,
+        listed(alloc, &[0x0001_005c, 0x0000_abcd], over)?,
+    ]?;
+    assert_report(
+        &rt,
+        alloc,
+        &job(alloc, &BRANCH, 10)?,
+        Vec::new(alloc),
+        places,
+        (2, 1),
+        Finding::Unknown,
+        "ctrel report 1\nverdict unknown\nbound 10\npaths 2\ndoubts 1\nsites 0\nplaces 4\n\
+         place leak 0x00010054 after 0 lines 0 turns -\n\
+         place next 0x00010058 after 1 lines 0 explored - turns 0\n\
+         place next 0x0001005c after 1 lines 1 explored 0x00000010 0x00020000 0x00020000 turns 1\n\
+         place over 0x0000abcd after 2 seen 0x00000000 0x00000020 0xfffffffc turns 1(0000abcd)\n",
     )
 }

@@ -1,0 +1,7 @@
+use Rattle.ct_main.proofs.Exact.{outcome_is}
+use Rattle.ct_main.proofs.made.check.Goals as goal
+
+pub returns : goal.returns
+returns c =
+    let told = c.in_ok-table.ensures in
+    rw c.of_table.ensures (outcome_is c.args.job.now _ told.sites told.pairs told.paths told.covered)
