@@ -23,7 +23,7 @@ line-apart name found rest count are =
     (digits.0 ++ 10 ∷ [] ++ rest, rw digits.1 (simp append_assoc))
 
 -- the digits of a line of values stand behind its name
-digits-of : (name found rest : List ℕ) (count : ℕ) → AreValues count found → take (2 * count) (drop (length name + 1) (values_line name found ++ rest)) ≡ encode_lower found
+pub digits-of : (name found rest : List ℕ) (count : ℕ) → AreValues count found → take (2 * count) (drop (length name + 1) (values_line name found ++ rest)) ≡ encode_lower found
 digits-of name found rest count are =
     let apart = line-apart name found rest count are in
     let long : length (encode_lower found) ≡ 2 * count = omega (arith, length-encode_with lower_digits found, are.length_is) in
@@ -46,7 +46,7 @@ begins-same (Heading text) bytes rest more a b = append_cancel_left (line text) 
 begins-same (Values name count) bytes rest more a b = (values-same name a.0 b.0 rest more count a.1 b.1 (sym a.2 ∙ b.2)).1
 
 -- what follows lines with which bytes begin
-lines-same : (wanted : List Wanted) (bytes rest more : List ℕ) → HasLines wanted bytes rest → HasLines wanted bytes more → rest ≡ more
+pub lines-same : (wanted : List Wanted) (bytes rest more : List ℕ) → HasLines wanted bytes rest → HasLines wanted bytes more → rest ≡ more
 lines-same [] bytes rest more a b = sym a ∙ b
 lines-same (w ∷ wanted) bytes rest more a b =
     let next = begins-same w bytes a.0 b.0 a.1 b.1 in
@@ -54,7 +54,7 @@ lines-same (w ∷ wanted) bytes rest more a b =
     lines-same wanted b.0 rest more (subst P next a.2) b.2
 
 -- behind a bad line no more lines are good
-bad-last : (wanted : List Wanted) (bytes rest more : List ℕ) (k n : ℕ) → HasLines (take k wanted) bytes rest → IsBad (slice_get wanted k) rest → k < n → n ≤ length wanted → HasLines (take n wanted) bytes more → ⊥
+pub bad-last : (wanted : List Wanted) (bytes rest more : List ℕ) (k n : ℕ) → HasLines (take k wanted) bytes rest → IsBad (slice_get wanted k) rest → k < n → n ≤ length wanted → HasLines (take n wanted) bytes more → ⊥
 bad-last [] bytes rest more k n a bad low high b = absurd (omega arith)
 bad-last (w ∷ wanted) bytes rest more k zero a bad low high b = absurd (omega arith)
 bad-last (w ∷ wanted) bytes rest more zero (suc n) a bad low high b =

@@ -1,2 +1,4 @@
 pub mod PairText
+pub mod FirstBadLine
 pub mod Replaying
+pub mod ReplayText

@@ -3,6 +3,7 @@ use Rattle.std.specs.Prelude.{ℕ, ◌≡◌, ◌≢◌, ◌+◌, ◌-◌, ◌�
 use Rattle.ct_rows.specs.Lines.{line}
 use Rattle.ct_texts.specs.Bytes.{bytes_text}
 use Rattle.ct_pairs.specs.Inputs.{public_count, secret_count}
+use Rattle.ct_pairs.specs.declared.input_byte.InputByte.{InputByte}
 use Rattle.ct_pairs.specs.declared.job.Job.{Job}
 use Rattle.ct_pairs.specs.declared.pair.Pair.{Pair}
 use Rattle.pair_replay.specs.declared.refusal.PairRefusal.{PairRefusal}
@@ -30,14 +31,18 @@ pub data Wanted : Type 0 where
   Heading : List ℕ → Wanted
   Values : List ℕ → ℕ → Wanted
 
+-- the lines of a pair for these inputs
+abbrev pub lines_for : List InputByte → List Wanted
+lines_for inputs =
+    Heading (codes "pair 1")
+    ∷ Values (codes "shared") (public_count inputs)
+    ∷ Values (codes "left") (secret_count inputs)
+    ∷ Values (codes "right") (secret_count inputs)
+    ∷ []
+
 -- the lines of a pair of the job
 abbrev pub wanted_lines : Job → List Wanted
-wanted_lines job =
-    Heading (codes "pair 1")
-    ∷ Values (codes "shared") (public_count job.inputs)
-    ∷ Values (codes "left") (secret_count job.inputs)
-    ∷ Values (codes "right") (secret_count job.inputs)
-    ∷ []
+wanted_lines job = lines_for job.inputs
 
 -- the bytes begin with the line that is wanted, and the rest follows
 abbrev pub BeginsWith : Wanted → List ℕ → List ℕ → Type 0

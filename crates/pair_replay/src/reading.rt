@@ -1,10 +1,11 @@
 //! Pairs read from texts.
-ghost use Rattle.std.specs.Prelude.{◌≡◌, ◌≤◌, ◌⊎◌, ℕ, Ok, Err, IfOk, IfErr};
+ghost use Rattle.std.specs.Prelude.{◌≡◌, ◌≤◌, ◌⊎◌, ◌↔◌, ℕ, Some, None, Ok, Err, IfOk, IfErr};
 ghost use Rattle.ct_pairs.specs.Pair.{IsPair};
 ghost use Rattle.ct_pairs.specs.Inputs.{public_count, secret_count};
 ghost use Rattle.ct_pairs.specs.declared.pair.Pair.{Pair};
 ghost use Rattle.pair_replay.specs.PairText.{pair_text, wanted_lines, IsBadLine, HasBadLine};
 ghost use Rattle.pair_replay.specs.declared.refusal.PairRefusal.TheVariants.{Memory};
+ghost use Rattle.pair_replay.specs.FirstBadLine.{first_bad_line};
 
 use crate::refusal::PairRefusal;
 use crate::values::read_values;
@@ -66,4 +67,11 @@ pub fn pair_text_law(bytes: &[u8], job: &Job)
     ensures once { (i k : ℕ) → IsBadLine (wanted_lines job.now) bytes.now i → IsBadLine (wanted_lines job.now) bytes.now k → i ≡ k }
     ensures good { (pair : Pair) → IsPair job.now pair → bytes.now ≡ pair_text pair → (k : ℕ) → IsBadLine (wanted_lines job.now) bytes.now k → ⊥ }
     ensures one_pair { (p q : Pair) → IsPair job.now p → IsPair job.now q → bytes.now ≡ pair_text p → bytes.now ≡ pair_text q → p ≡ q }
+{}
+
+/// The law of the first bad line as it is computed: it is the first bad one, and only a text of a
+/// pair has none.
+pub fn bad_line_law(bytes: &[u8], job: &Job)
+    ensures line { (k : ℕ) → (first_bad_line job.now.inputs bytes.now ≡ Some k) ↔ IsBadLine (wanted_lines job.now) bytes.now k }
+    ensures good { (first_bad_line job.now.inputs bytes.now ≡ None) ↔ ((pair : Pair) × IsPair job.now pair × (bytes.now ≡ pair_text pair)) }
 {}
