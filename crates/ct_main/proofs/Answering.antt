@@ -1,15 +1,17 @@
 -- A call that found a task and delivered it, or found out why not, gives a right and complete answer.
-use Rattle.std.proofs.Common.{◌≡◌, ◌∙◌, ℕ, List, [], Option, None, Some, Result, Ok, Err, IfSome, IfOk, IsSomeAnd, refl, sym, ap, subst, inl, inr}
+use Rattle.std.proofs.Common.{◌≡◌, ◌≤◌, ◌∙◌, ℕ, List, [], Option, None, Some, Result, Ok, Err, IfSome, IfOk, IsSomeAnd, refl, sym, ap, subst, inl, inr, arith}
 use Rattle.std.specs.declared.alloc.AllocError.{AllocError}
 use Rattle.rv_image.specs.Loading.{cells_of}
 use Rattle.ct_lines.specs.declared.command.Command.{Command}
-use Rattle.ct_lines.specs.declared.command.Command.TheVariants.{Byte, Check, Trace, List as Listing}
+use Rattle.ct_lines.specs.declared.command.Command.TheVariants.{Byte, Check, Replay, Trace, List as Listing, Gen}
 use Rattle.ct_pairs.specs.declared.job.Job.{Job}
 use Rattle.ct_report.specs.declared.outcome.Outcome.{Outcome}
-use Rattle.ct_report.specs.Report.{report_of}
+use Rattle.ct_listing.specs.Trace.{trace_of}
 use Rattle.ct_listing.specs.List.{list_of}
+use Rattle.pair_replay.specs.declared.replayed.Replayed.{Replayed}
+use Rattle.pair_replay.specs.declared.replayed.Replayed.TheVariants.{Agree, Differ}
 use Rattle.ct_main.specs.declared.refusal.Refusal.{Refusal}
-use Rattle.ct_main.specs.declared.refusal.Refusal.TheVariants.{Words, Elf, Policy, Long, Later, Memory, ReadFault, WriteFault}
+use Rattle.ct_main.specs.declared.refusal.Refusal.TheVariants.{Words, Elf, Policy, PairText, Long, Later, Memory, ReadFault, WriteFault}
 use Rattle.ct_main.specs.declared.task.Task.{Task}
 use Rattle.ct_main.specs.declared.task.Task.TheVariants as tasks
 use Rattle.ct_main.specs.declared.made.Made.{Made}
@@ -17,11 +19,12 @@ use Rattle.ct_main.specs.Outside.{Reading, Writing, WroteNothing}
 use Rattle.ct_main.specs.Phases.{Phase, phases_of}
 use Rattle.ct_main.specs.Reads.{EndsCommand}
 use Rattle.ct_main.specs.Outcomes.{IsOutcomeOf}
-use Rattle.ct_main.specs.Texts.{IsJobFor, IsCheck, IsReport, IsTextOf}
+use Rattle.ct_main.specs.Texts.{IsJobFor, IsCheck, IsComparison, IsReport, IsTextOf}
 use Rattle.ct_main.specs.Causes.{Accepts, WasChecked, Answered, Refuses}
 use Rattle.ct_main.specs.Complete.{IsComplete}
+use Rattle.ct_main.specs.Status.{refusal_status, outcome_status, replay_status, ended_status, HasStatus}
 use Rattle.ct_main.specs.Answer.{IsAnswer}
-use Rattle.ct_main.specs.Tasks.{IsTaskOf, IsPrepared, IsDone, WroteMade, IsDelivered}
+use Rattle.ct_main.specs.Tasks.{IsTaskOf, IsPrepared, IsReported, IsDone, WroteMade, IsDelivered}
 use Rattle.ct_main.proofs.Completing.{complete_words, complete_memory, complete_ends, complete_accepted}
 
 -- a failing output is no refusal of a command's files
@@ -33,28 +36,31 @@ never_writes reading (Some phases) ends = ends.0
 refused_answer : (command : Command) (reading : Reading) (writing : Writing) (refusal : Refusal) → EndsCommand reading (phases_of command) refusal → WroteNothing writing → IsComplete (Some command) reading writing (Some refusal)
 refused_answer command reading writing refusal ends nothing = complete_ends (Some command) reading writing command (phases_of command) refusal refl refl ends
 
-pub answer_refused : (words : Option Command) (reading : Reading) (writing : Writing) (refusal : Refusal) → Refuses words reading refusal → WroteNothing writing → IsAnswer words reading writing None (Some refusal)
+pub answer_refused : (words : Option Command) (reading : Reading) (writing : Writing) (refusal : Refusal) → Refuses words reading refusal → WroteNothing writing → IsAnswer words reading writing (refusal_status refusal) None (Some refusal)
 answer_refused words reading writing Words why nothing =
-    record { right = tt; cause = why; has_outcome = refl; writes = nothing; complete = complete_words words reading writing why.0 why.1 }
+    record { right = tt; cause = why; has_status = refl; has_outcome = refl; writes = nothing; complete = complete_words words reading writing why.0 why.1 }
 answer_refused words reading writing Memory why nothing =
-    record { right = tt; cause = why; has_outcome = tt; writes = nothing; complete = complete_memory words reading writing }
+    record { right = tt; cause = why; has_status = refl; has_outcome = tt; writes = nothing; complete = complete_memory words reading writing }
 answer_refused None reading writing (Elf rule) why nothing = absurd why
 answer_refused None reading writing (Policy rule) why nothing = absurd why
+answer_refused None reading writing (PairText line) why nothing = absurd why
 answer_refused None reading writing Long why nothing = absurd why
 answer_refused None reading writing Later why nothing = absurd why
 answer_refused None reading writing ReadFault why nothing = absurd why
 answer_refused None reading writing WriteFault why nothing = absurd why
 answer_refused (Some command) reading writing WriteFault why nothing = absurd (never_writes reading (phases_of command) why)
 answer_refused (Some command) reading writing (Elf rule) why nothing =
-    record { right = tt; cause = why; has_outcome = refl; writes = nothing; complete = refused_answer command reading writing (Elf rule) why nothing }
+    record { right = tt; cause = why; has_status = refl; has_outcome = refl; writes = nothing; complete = refused_answer command reading writing (Elf rule) why nothing }
 answer_refused (Some command) reading writing (Policy rule) why nothing =
-    record { right = tt; cause = why; has_outcome = refl; writes = nothing; complete = refused_answer command reading writing (Policy rule) why nothing }
+    record { right = tt; cause = why; has_status = refl; has_outcome = refl; writes = nothing; complete = refused_answer command reading writing (Policy rule) why nothing }
+answer_refused (Some command) reading writing (PairText line) why nothing =
+    record { right = tt; cause = why; has_status = refl; has_outcome = refl; writes = nothing; complete = refused_answer command reading writing (PairText line) why nothing }
 answer_refused (Some command) reading writing Long why nothing =
-    record { right = tt; cause = why; has_outcome = refl; writes = nothing; complete = refused_answer command reading writing Long why nothing }
+    record { right = tt; cause = why; has_status = refl; has_outcome = refl; writes = nothing; complete = refused_answer command reading writing Long why nothing }
 answer_refused (Some command) reading writing Later why nothing =
-    record { right = tt; cause = why; has_outcome = refl; writes = nothing; complete = refused_answer command reading writing Later why nothing }
+    record { right = tt; cause = why; has_status = refl; has_outcome = refl; writes = nothing; complete = refused_answer command reading writing Later why nothing }
 answer_refused (Some command) reading writing ReadFault why nothing =
-    record { right = tt; cause = why; has_outcome = refl; writes = nothing; complete = refused_answer command reading writing ReadFault why nothing }
+    record { right = tt; cause = why; has_status = refl; has_outcome = refl; writes = nothing; complete = refused_answer command reading writing ReadFault why nothing }
 
 -- an outcome that is there
 of_outcome : (outcome : Option Outcome) (found : Outcome) (P : Outcome → Type 0) → outcome ≡ Some found → IfSome outcome P → P found
@@ -70,14 +76,16 @@ check_of_task : (command : Command) (contents : List (List ℕ)) (task : Task) (
 check_of_task (Byte binary entry bound) contents (tasks.Check job) made found task_is done is = checked (Byte binary entry bound) contents job made.outcome found task_is done.0 is
 check_of_task (Check binary policy bound workers budget targets) contents (tasks.Check job) made found task_is done is =
     checked (Check binary policy bound workers budget targets) contents job made.outcome found task_is done.0 is
+check_of_task (Replay binary policy name) contents (tasks.Replay job pair) made found task_is done is = absurd (let none = done.0 in cc)
 check_of_task (Trace binary entry bound) contents (tasks.Trace job) made found task_is done is = absurd (let none = done.0 in cc)
 check_of_task (Listing binary) contents (tasks.List elf) made found task_is done is = absurd (let none = done.0 in cc)
 check_of_task _ contents _ made found task_is done is = absurd task_is
 
 -- the report of a command's job
-reported : (command : Command) (contents : List (List ℕ)) (job : Job) (outcome : Option Outcome) (text : List ℕ) → IsJobFor command contents job → IfSome outcome (IsOutcomeOf job) → IsSomeAnd outcome (λ found. text ≡ report_of job found) → IsSomeAnd outcome (λ found. IsReport command contents found text)
-reported command contents job None text job_is made text_is = absurd text_is
-reported command contents job (Some found) text job_is made text_is = record { job = job; job_is = job_is; outcome_is = made; text_is = text_is }
+reported : (command : Command) (contents : List (List ℕ)) (job : Job) (outcome : Option Outcome) (status : ℕ) (text : List ℕ) → IsJobFor command contents job → IfSome outcome (IsOutcomeOf job) → IsSomeAnd outcome (λ found. IsReported job found status text) → IsSomeAnd outcome (λ found. (status ≡ outcome_status found) × IsReport command contents found text)
+reported command contents job None status text job_is made reported_is = absurd reported_is
+reported command contents job (Some found) status text job_is made reported_is =
+    (reported_is.status_is, record { job = job; job_is = job_is; outcome_is = made; text_is = reported_is.text_is })
 
 -- a text that was made
 of_text : (result : Result (List ℕ) AllocError) (text : List ℕ) (P : List ℕ → Type 0) → result ≡ Ok text → IfOk result P → P text
@@ -85,18 +93,46 @@ of_text (Ok other) text P is holds = let same : other ≡ text = cc in subst P s
 of_text (Err error) text P is holds = absurd cc
 
 -- the text of a task is the one for which the command asks
-text_of_task : (command : Command) (contents : List (List ℕ)) (task : Task) (made : Made) (text : List ℕ) → IsTaskOf command contents task → IsDone task made → made.text ≡ Ok text → IsTextOf command contents made.outcome text
+text_of_task : (command : Command) (contents : List (List ℕ)) (task : Task) (made : Made) (text : List ℕ) → IsTaskOf command contents task → IsDone task made → made.text ≡ Ok text → IsTextOf command contents made.outcome made.status text
 text_of_task (Byte binary entry bound) contents (tasks.Check job) made text task_is done is =
-    reported (Byte binary entry bound) contents job made.outcome text task_is done.0
-    (of_text made.text text (λ t. IsSomeAnd made.outcome (λ found. t ≡ report_of job found)) is done.1)
+    reported (Byte binary entry bound) contents job made.outcome made.status text task_is done.0
+    (of_text made.text text (λ t. IsSomeAnd made.outcome (λ found. IsReported job found made.status t)) is done.1)
 text_of_task (Check binary policy bound workers budget targets) contents (tasks.Check job) made text task_is done is =
-    reported (Check binary policy bound workers budget targets) contents job made.outcome text task_is done.0
-    (of_text made.text text (λ t. IsSomeAnd made.outcome (λ found. t ≡ report_of job found)) is done.1)
+    reported (Check binary policy bound workers budget targets) contents job made.outcome made.status text task_is done.0
+    (of_text made.text text (λ t. IsSomeAnd made.outcome (λ found. IsReported job found made.status t)) is done.1)
+text_of_task (Replay binary policy name) contents (tasks.Replay job pair) made text task_is done is =
+    (done.0, record { job = job; job_is = task_is.0; pair = pair; pair_is = task_is.1; comparison = of_text made.text text (IsComparison job pair made.status) is done.1 })
 text_of_task (Trace binary entry bound) contents (tasks.Trace job) made text task_is done is =
-    (done.0, record { job = job; job_is = task_is; text_is = of_text made.text text (λ t. t ≡ _) is done.1 })
+    let both = of_text made.text text (λ t. (made.status ≡ 0) × (t ≡ trace_of job)) is done.1 in
+    (done.0, both.0, record { job = job; job_is = task_is; text_is = both.1 })
 text_of_task (Listing binary) contents (tasks.List elf) made text task_is done is =
-    (done.0, of_text made.text text (λ t. t ≡ list_of (cells_of elf [])) is done.1 ∙ ap (λ e. list_of (cells_of e [])) task_is)
+    let both = of_text made.text text (λ t. (made.status ≡ 0) × (t ≡ list_of (cells_of elf []))) is done.1 in
+    (done.0, both.0, both.1 ∙ ap (λ e. list_of (cells_of e [])) task_is)
 text_of_task _ contents _ made text task_is done is = absurd task_is
+
+-- the status of an outcome that is there
+of_found : (outcome : Option Outcome) (command : Command) (contents : List (List ℕ)) (status : ℕ) (text : List ℕ) → IsSomeAnd outcome (λ found. (status ≡ outcome_status found) × IsReport command contents found text) → HasStatus outcome None status
+of_found None command contents status text is = absurd is
+of_found (Some found) command contents status text is = is.0
+
+-- where there is none the status is at most 1
+of_none : (outcome : Option Outcome) (status : ℕ) → outcome ≡ None → status ≤ 1 → HasStatus outcome None status
+of_none outcome status none low = subst (λ o. HasStatus o None status) (sym none) low
+
+compared_low : (replayed : Replayed) → replay_status replayed ≤ 1
+compared_low (Agree steps) = omega arith
+compared_low (Differ split) = omega arith
+
+-- a whole text has a status
+text_status : (command : Command) (contents : List (List ℕ)) (outcome : Option Outcome) (status : ℕ) (text : List ℕ) → IsTextOf command contents outcome status text → HasStatus outcome None status
+text_status (Byte binary entry bound) contents outcome status text is = of_found outcome (Byte binary entry bound) contents status text is
+text_status (Check binary policy bound workers budget targets) contents outcome status text is =
+    of_found outcome (Check binary policy bound workers budget targets) contents status text is
+text_status (Replay binary policy pair) contents outcome status text is =
+    of_none outcome status is.0 (let low = compared_low is.1.comparison.replayed in omega (arith, is.1.comparison.status_is, low))
+text_status (Trace binary entry bound) contents outcome status text is = of_none outcome status is.0 (omega (arith, is.1))
+text_status (Listing binary) contents outcome status text is = of_none outcome status is.0 (omega (arith, is.1))
+text_status (Gen number size) contents outcome status text is = of_found outcome (Gen number size) contents status text is
 
 -- the words and the files of a command that was prepared
 accepts_of : (command : Command) (reading : Reading) (task : Task) (prepared : IsPrepared reading command task) → Accepts (Some command) reading command prepared.passed.contents
@@ -111,42 +147,48 @@ right_of command reading task made (Some found) prepared done is = record {
   is_check = check_of_task command prepared.passed.contents task made found prepared.passed.says done (sym is);
 }
 
-answered_of : (command : Command) (reading : Reading) (task : Task) (made : Made) (outcome : Option Outcome) (text : List ℕ) → IsPrepared reading command task → IsDone task made → outcome ≡ made.outcome → made.text ≡ Ok text → Answered (Some command) reading outcome text
+answered_of : (command : Command) (reading : Reading) (task : Task) (made : Made) (outcome : Option Outcome) (text : List ℕ) → IsPrepared reading command task → IsDone task made → outcome ≡ made.outcome → made.text ≡ Ok text → Answered (Some command) reading outcome made.status text
 answered_of command reading task made outcome text prepared done is text_is = record {
   command = command;
   contents = prepared.passed.contents;
   accepts = accepts_of command reading task prepared;
-  text_is = subst (λ o. IsTextOf command prepared.passed.contents o text) (sym is) (text_of_task command prepared.passed.contents task made text prepared.passed.says done text_is);
+  text_is = subst (λ o. IsTextOf command prepared.passed.contents o made.status text) (sym is) (text_of_task command prepared.passed.contents task made text prepared.passed.says done text_is);
 }
 
 -- what was written of the text of a task
-written : (command : Command) (reading : Reading) (writing : Writing) (task : Task) (made : Made) (outcome : Option Outcome) (text : Result (List ℕ) AllocError) (refusal : Option Refusal) → IsPrepared reading command task → IsDone task made → outcome ≡ made.outcome → made.text ≡ text → WroteMade writing text refusal → IsAnswer (Some command) reading writing outcome refusal
-written command reading writing task made outcome (Ok text) None prepared done is text_is wrote = record {
-  right = right_of command reading task made outcome prepared done is;
-  cause = record { text = text; answered = answered_of command reading task made outcome text prepared done is text_is; written = wrote };
-  has_outcome = tt;
-  writes = tt;
-  complete = complete_accepted (Some command) reading writing command prepared.phases prepared.passed.contents None refl prepared.built prepared.passed.accepted (λ _. inl refl);
-}
-written command reading writing task made outcome (Ok text) (Some refusal) prepared done is text_is wrote =
-    subst (λ r. IsAnswer (Some command) reading writing outcome (Some r)) (sym wrote.0) (record {
+written : (command : Command) (reading : Reading) (writing : Writing) (task : Task) (made : Made) (outcome : Option Outcome) (text : Result (List ℕ) AllocError) (refusal : Option Refusal) → IsPrepared reading command task → IsDone task made → outcome ≡ made.outcome → made.text ≡ text → WroteMade writing text refusal → IsAnswer (Some command) reading writing (ended_status made.status refusal) outcome refusal
+written command reading writing task made outcome (Ok text) None prepared done is text_is wrote =
+    let answered = answered_of command reading task made outcome text prepared done is text_is in
+    record {
       right = right_of command reading task made outcome prepared done is;
-      cause = record { text = text; answered = answered_of command reading task made outcome text prepared done is text_is; written = wrote.1 };
+      cause = record { text = text; answered = answered; written = wrote };
+      has_status = text_status answered.command answered.contents outcome made.status text answered.text_is;
+      has_outcome = tt;
+      writes = tt;
+      complete = complete_accepted (Some command) reading writing command prepared.phases prepared.passed.contents None refl prepared.built prepared.passed.accepted (λ _. inl refl);
+    }
+written command reading writing task made outcome (Ok text) (Some refusal) prepared done is text_is wrote =
+    subst (λ r. IsAnswer (Some command) reading writing (refusal_status r) outcome (Some r)) (sym wrote.0) (record {
+      right = right_of command reading task made outcome prepared done is;
+      cause = record { status = made.status; text = text; answered = answered_of command reading task made outcome text prepared done is text_is; written = wrote.1 };
+      has_status = refl;
       has_outcome = tt;
       writes = tt;
       complete = complete_accepted (Some command) reading writing command prepared.phases prepared.passed.contents (Some WriteFault) refl prepared.built prepared.passed.accepted (λ works. absurd (works wrote.1.cause));
     })
 written command reading writing task made outcome (Err error) None prepared done is text_is wrote = absurd wrote
 written command reading writing task made outcome (Err error) (Some refusal) prepared done is text_is wrote =
-    subst (λ r. IsAnswer (Some command) reading writing outcome (Some r)) (sym wrote.0) (record {
+    subst (λ r. IsAnswer (Some command) reading writing (refusal_status r) outcome (Some r)) (sym wrote.0) (record {
       right = right_of command reading task made outcome prepared done is;
       cause = inr (subst (λ p. EndsCommand reading p Memory) (sym prepared.built) (inr (inr (prepared.passed.contents, prepared.passed.accepted))));
+      has_status = refl;
       has_outcome = tt;
       writes = wrote.1;
       complete = complete_memory (Some command) reading writing;
     })
 
-pub answer_delivered : (words : Option Command) (reading : Reading) (writing : Writing) (task : Task) (outcome : Option Outcome) (refusal : Option Refusal) → IsSomeAnd words (λ command. IsPrepared reading command task) → IsDelivered task writing outcome refusal → IsAnswer words reading writing outcome refusal
-answer_delivered None reading writing task outcome refusal prepared delivered = absurd prepared
-answer_delivered (Some command) reading writing task outcome refusal prepared delivered =
-    written command reading writing task delivered.made outcome delivered.made.text refusal prepared delivered.done delivered.outcome_is refl delivered.wrote
+pub answer_delivered : (words : Option Command) (reading : Reading) (writing : Writing) (task : Task) (status : ℕ) (outcome : Option Outcome) (refusal : Option Refusal) → IsSomeAnd words (λ command. IsPrepared reading command task) → IsDelivered task writing status outcome refusal → IsAnswer words reading writing status outcome refusal
+answer_delivered None reading writing task status outcome refusal prepared delivered = absurd prepared
+answer_delivered (Some command) reading writing task status outcome refusal prepared delivered =
+    subst (λ s. IsAnswer (Some command) reading writing s outcome refusal) (sym delivered.status_is)
+    (written command reading writing task delivered.made outcome delivered.made.text refusal prepared delivered.done delivered.outcome_is refl delivered.wrote)

@@ -15,7 +15,7 @@ use Rattle.ct_report.specs.Report.{outcome_of}
 use Rattle.ct_main.specs.Outcomes.{IsOutcomeOf}
 
 -- the sites of rows
-sites_are : (table : List Found) → map (λ (row : ℕ × ℕ). row.0) (sites_of table) ≡ map (λ (found : Found). found.site) table
+pub sites_are : (table : List Found) → map (λ (row : ℕ × ℕ). row.0) (sites_of table) ≡ map (λ (found : Found). found.site) table
 sites_are [] = refl
 sites_are (found ∷ table) = ap (λ sites. found.site ∷ sites) (sites_are table)
 

@@ -1,9 +1,11 @@
 pub mod Exact
+pub mod LeakSites
 pub mod PhaseLemmas
 pub mod PhaseExamples
 pub mod Completing
 pub mod Answering
 pub mod Passing
+pub mod Following
 pub mod RuleLemmas
 pub mod Giving
 pub mod Counting

@@ -12,7 +12,7 @@ use Rattle.ct_main.specs.Reads.{Passed, Begun, Accepted}
 use Rattle.ct_main.specs.Tasks.{AskedForName, IsRead}
 
 -- a file that isn't long and meets its rules gives no refusal
-short_meets : (bytes : List ℕ) (rule : Option Refusal) → length bytes ≤ LONGEST → rule ≡ None → (if nat_lt LONGEST (length bytes) then Some Long else option_or rule None) ≡ None
+pub short_meets : (bytes : List ℕ) (rule : Option Refusal) → length bytes ≤ LONGEST → rule ≡ None → (if nat_lt LONGEST (length bytes) then Some Long else option_or rule None) ≡ None
 short_meets bytes rule short meets = rw meets (grind (arith, common_steps))
 
 -- the bytes of one file, as a list

@@ -28,8 +28,9 @@ absent_executable : (binary policy : List ℕ) (bound : Option ℕ) (workers bud
 unfolding phases_refusal
 absent_executable binary policy bound workers budget targets = refl
 
-unbuilt_replay : (binary policy pair : List ℕ) (known : List ℕ → Option (List ℕ)) → refusal_of (Replay binary policy pair) known ≡ Some Later
-unbuilt_replay binary policy pair known = refl
+replay_asks_for_three : (binary policy pair : List ℕ) → names_asked (Replay binary policy pair) ≡ Some (binary ∷ policy ∷ pair ∷ [])
+unfolding names_asked
+replay_asks_for_three binary policy pair = refl
 
 unbuilt_gen : (number size : ℕ) (known : List ℕ → Option (List ℕ)) → refusal_of (Gen number size) known ≡ Some Later
 unbuilt_gen number size known = refl

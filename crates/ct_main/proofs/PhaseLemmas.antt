@@ -15,12 +15,12 @@ pub record PassesOn (long : Bool) (rule after : Option Refusal) : Type 0 where
   pub meets : rule ≡ None
   pub goes_on : after ≡ None
 
-passes_on : (long : Bool) (rule after : Option Refusal) → (if long then Some Long else option_or rule after) ≡ None → PassesOn long rule after
+pub passes_on : (long : Bool) (rule after : Option Refusal) → (if long then Some Long else option_or rule after) ≡ None → PassesOn long rule after
 passes_on true rule after none = absurd cc
 passes_on false None after none = record { short = refl; meets = refl; goes_on = none }
 passes_on false (Some refusal) after none = absurd cc
 
-on : (long : Bool) (rule after : Option Refusal) → long ≡ false → rule ≡ None → (if long then Some Long else option_or rule after) ≡ after
+pub on : (long : Bool) (rule after : Option Refusal) → long ≡ false → rule ≡ None → (if long then Some Long else option_or rule after) ≡ after
 on long rule after short meets = rw (short, meets) refl
 
 -- after phases that passed, the refusal is that of the phases that follow
@@ -37,7 +37,7 @@ phases_on before (phase ∷ phases) rest (bytes ∷ contents) files count meet =
     ∙ ap (λ b. phases_refusal b rest files) (append_assoc before (bytes ∷ []) contents)
 
 -- what known files hold for phases one after another
-held_append : (known : List ℕ → Option (List ℕ)) (first second : List Phase) → held known (first ++ second) ≡ held known first ++ held known second
+pub held_append : (known : List ℕ → Option (List ℕ)) (first second : List Phase) → held known (first ++ second) ≡ held known first ++ held known second
 held_append known [] second = refl
 held_append known (phase ∷ first) second = ap (λ files. known phase.0 ∷ files) (held_append known first second)
 

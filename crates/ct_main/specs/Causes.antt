@@ -23,23 +23,24 @@ pub record WasChecked (words : Option Command) (reading : Reading) (outcome : Ou
   pub accepts : Accepts words reading command contents
   pub is_check : IsCheck command contents outcome
 
--- this is the text for which words and files ask, with this outcome where they ask for a check
-pub record Answered (words : Option Command) (reading : Reading) (outcome : Option Outcome) (text : List ℕ) : Type 0 where
+-- this is the text for which words and files ask, with this status, and with this outcome where they ask for a check
+pub record Answered (words : Option Command) (reading : Reading) (outcome : Option Outcome) (status : ℕ) (text : List ℕ) : Type 0 where
   pub command : Command
   pub contents : List (List ℕ)
   pub accepts : Accepts words reading command contents
-  pub text_is : IsTextOf command contents outcome text
+  pub text_is : IsTextOf command contents outcome status text
 
 -- the whole text was written
-pub record WasWritten (words : Option Command) (reading : Reading) (writing : Writing) (outcome : Option Outcome) : Type 0 where
+pub record WasWritten (words : Option Command) (reading : Reading) (writing : Writing) (outcome : Option Outcome) (status : ℕ) : Type 0 where
   pub text : List ℕ
-  pub answered : Answered words reading outcome text
+  pub answered : Answered words reading outcome status text
   pub written : WroteWhole writing text
 
--- a front of the text was written
+-- a front of the text was written, which has a status of its own
 pub record WasCut (words : Option Command) (reading : Reading) (writing : Writing) (outcome : Option Outcome) : Type 0 where
+  pub status : ℕ
   pub text : List ℕ
-  pub answered : Answered words reading outcome text
+  pub answered : Answered words reading outcome status text
   pub written : WroteFront writing text
 
 -- why a call has a refusal before it writes; one that no line names comes from the command's files
@@ -48,11 +49,11 @@ Refuses words reading Words = (words ≡ None) × AskedNothing reading
 Refuses words reading Memory = AskedNothing reading ⊎ IsSomeAnd words (λ command. EndsCommand reading (phases_of command) Memory)
 Refuses words reading refusal = IsSomeAnd words (λ command. EndsCommand reading (phases_of command) refusal)
 
--- why a call has this refusal, or none
-abbrev pub HasCause : Option Command → Reading → Writing → Option Outcome → Option Refusal → Type 0
-HasCause words reading writing outcome None = WasWritten words reading writing outcome
-HasCause words reading writing outcome (Some WriteFault) = WasCut words reading writing outcome
-HasCause words reading writing outcome (Some refusal) = Refuses words reading refusal
+-- why a call has this refusal, or none and this status
+abbrev pub HasCause : Option Command → Reading → Writing → ℕ → Option Outcome → Option Refusal → Type 0
+HasCause words reading writing status outcome None = WasWritten words reading writing outcome status
+HasCause words reading writing status outcome (Some WriteFault) = WasCut words reading writing outcome
+HasCause words reading writing status outcome (Some refusal) = Refuses words reading refusal
 
 -- a refusal before the run leaves no outcome; whether a written text has one is said by the text
 abbrev pub HasOutcome : Option Outcome → Option Refusal → Type 0

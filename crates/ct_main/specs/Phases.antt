@@ -7,7 +7,7 @@ use Rattle.elf_load.specs.File.{first_refusal}
 use Rattle.elf_load.specs.Loading.{elf_of}
 use Rattle.ct_outside.specs.declared.reading.TheConstants.{LONGEST}
 use Rattle.ct_lines.specs.declared.command.Command.{Command}
-use Rattle.ct_lines.specs.declared.command.Command.TheVariants.{Byte, Check, Trace, List as Listing}
+use Rattle.ct_lines.specs.declared.command.Command.TheVariants.{Byte, Check, Replay, Trace, List as Listing}
 use Rattle.ct_lines.specs.Commands.{files_of}
 use Rattle.ct_pairs.specs.declared.entry.Entry.{Entry}
 use Rattle.ct_pairs.specs.declared.input_byte.InputByte.{InputByte}
@@ -17,8 +17,9 @@ use Rattle.ct_document.specs.Keys.{policy_of}
 use Rattle.ct_policy.specs.Policy.{all_input_bytes}
 use Rattle.ct_policy.specs.Rules.{first_policy_refusal}
 use Rattle.ct_policy.specs.ByteJob.{byte_refusal}
+use Rattle.pair_replay.specs.FirstBadLine.{first_bad_line}
 use Rattle.ct_main.specs.declared.refusal.Refusal.{Refusal}
-use Rattle.ct_main.specs.declared.refusal.Refusal.TheVariants.{Elf as FileRule, Policy as PolicyRule, Long, Later, ReadFault}
+use Rattle.ct_main.specs.declared.refusal.Refusal.TheVariants.{Elf as FileRule, Policy as PolicyRule, Long, PairText, Later, ReadFault}
 
 -- the bytes of the executable, which is the first of a command's files
 abbrev pub binary_bytes : List (List ℕ) → List ℕ
@@ -31,6 +32,10 @@ program_of contents = elf_of (binary_bytes contents)
 -- the bytes of the policy, which is the second file
 abbrev pub policy_bytes : List (List ℕ) → List ℕ
 policy_bytes contents = slice_index_or contents 1 []
+
+-- the bytes of the pair's text, which is the third file
+abbrev pub pair_bytes : List (List ℕ) → List ℕ
+pair_bytes contents = slice_index_or contents 2 []
 
 -- the input bytes that a policy names; none where it is no policy
 abbrev pub policy_inputs : Elf → List ℕ → List InputByte
@@ -53,16 +58,26 @@ unfoldable pub routine_rules : Entry → Rules
 routine_rules entry contents =
     option_or (executable_rules contents) (option_map (λ rule. PolicyRule rule) (byte_refusal (program_of contents) entry))
 
--- the rules of policies; then only a check of one secret byte is built today
+-- the rules of policies
 unfoldable pub policy_rules : Rules
-policy_rules contents =
-    option_or (option_map (λ rule. PolicyRule rule) (first_policy_refusal (program_of contents) (policy_bytes contents)))
+policy_rules contents = option_map (λ rule. PolicyRule rule) (first_policy_refusal (program_of contents) (policy_bytes contents))
+
+-- the lines of the text of a pair, by the inputs of the policy
+unfoldable pub pair_rules : Rules
+pair_rules contents =
+    option_map (λ k. PairText k) (first_bad_line (policy_inputs (program_of contents) (policy_bytes contents)) (pair_bytes contents))
+
+-- the rules of policies; then only a check of one secret byte is built today
+unfoldable pub one_secret_rules : Rules
+one_secret_rules contents =
+    option_or (policy_rules contents)
     (if is_one_secret (policy_inputs (program_of contents) (policy_bytes contents)) then None else Some Later)
 
 -- the rules of each file of a command, in the order in which it reads them; None where it isn't built
 abbrev pub rules_of : Command → Option (List Rules)
 rules_of (Byte binary entry bound) = Some (routine_rules entry ∷ [])
-rules_of (Check binary policy bound workers budget targets) = Some (executable_rules ∷ policy_rules ∷ [])
+rules_of (Check binary policy bound workers budget targets) = Some (executable_rules ∷ one_secret_rules ∷ [])
+rules_of (Replay binary policy pair) = Some (executable_rules ∷ policy_rules ∷ pair_rules ∷ [])
 rules_of (Trace binary entry bound) = Some (routine_rules entry ∷ [])
 rules_of (Listing binary) = Some (executable_rules ∷ [])
 rules_of _ = None

@@ -5,7 +5,7 @@ use Rattle.elf_load.specs.declared.refusal.ElfRefusal.TheVariants as files
 use Rattle.ct_document.specs.declared.refusal.PolicyRefusal.TheVariants as policies
 use Rattle.ct_outside.specs.declared.reading.TheConstants.{LONGEST}
 use Rattle.ct_main.specs.declared.refusal.Refusal.{Refusal}
-use Rattle.ct_main.specs.declared.refusal.Refusal.TheVariants.{Elf, Policy, Long, Later, Memory, ReadFault}
+use Rattle.ct_main.specs.declared.refusal.Refusal.TheVariants.{Elf, Policy, PairText, Long, Later, Memory, ReadFault}
 use Rattle.ct_main.specs.Outside.{Reading, AskedNothing, WasRead, WasLong, WasCutOff}
 use Rattle.ct_main.specs.Phases.{Phase, names_of, held, there, phases_refusal}
 
@@ -60,6 +60,7 @@ WantedMemory reading phases = AskedNothing reading ⊎ (Begun reading phases ⊎
 abbrev pub IsRule : Refusal → Type 0
 IsRule (Elf rule) = rule ≢ files.Memory
 IsRule (Policy rule) = rule ≢ policies.Memory
+IsRule (PairText line) = Unit {0}
 IsRule Later = Unit {0}
 IsRule _ = ⊥
 

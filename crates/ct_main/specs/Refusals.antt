@@ -7,8 +7,10 @@ use Rattle.ct_lines.specs.declared.words_refusal.WordsRefusal.{WordsRefusal}
 use Rattle.ct_lines.specs.declared.words_refusal.WordsRefusal.TheVariants as words
 use Rattle.ct_document.specs.declared.refusal.PolicyRefusal.{PolicyRefusal}
 use Rattle.ct_document.specs.declared.refusal.PolicyRefusal.TheVariants as policies
+use Rattle.pair_replay.specs.declared.refusal.PairRefusal.{PairRefusal}
+use Rattle.pair_replay.specs.declared.refusal.PairRefusal.TheVariants as pairs
 use Rattle.ct_main.specs.declared.refusal.Refusal.{Refusal}
-use Rattle.ct_main.specs.declared.refusal.Refusal.TheVariants.{Words, Elf, Policy, Long, Memory, ReadFault}
+use Rattle.ct_main.specs.declared.refusal.Refusal.TheVariants.{Words, Elf, Policy, PairText, Long, Memory, ReadFault}
 
 -- words that are no command
 abbrev pub words_refusal : WordsRefusal → Refusal
@@ -30,3 +32,8 @@ elf_refusal rule = Elf rule
 abbrev pub policy_refusal : PolicyRefusal → Refusal
 policy_refusal policies.Memory = Memory
 policy_refusal rule = Policy rule
+
+-- a line of the text of a pair
+abbrev pub pair_refusal : PairRefusal → Refusal
+pair_refusal pairs.Memory = Memory
+pair_refusal (pairs.Line line) = PairText line

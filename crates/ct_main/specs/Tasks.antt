@@ -6,9 +6,10 @@ use Rattle.rv_image.specs.Loading.{cells_of}
 use Rattle.ct_outside.specs.declared.reading.ReadEnd.{ReadEnd}
 use Rattle.ct_outside.specs.declared.reading.ReadEnd.TheVariants as ends
 use Rattle.ct_lines.specs.declared.command.Command.{Command}
-use Rattle.ct_lines.specs.declared.command.Command.TheVariants.{Byte, Check, Trace, List as Listing}
+use Rattle.ct_lines.specs.declared.command.Command.TheVariants.{Byte, Check, Replay, Trace, List as Listing}
 use Rattle.ct_pairs.specs.declared.job.Job.{Job}
 use Rattle.ct_pairs.specs.Inputs.{public_count, secret_count}
+use Rattle.ct_pairs.specs.Pair.{IsPair}
 use Rattle.ct_report.specs.Report.{report_of}
 use Rattle.ct_listing.specs.Trace.{trace_of}
 use Rattle.ct_listing.specs.List.{list_of}
@@ -22,8 +23,9 @@ use Rattle.ct_main.specs.Outside.{Reading, Writing, AskedNothing, WasRead, WasLo
 use Rattle.ct_main.specs.Phases.{Phase, phases_of, program_of}
 use Rattle.ct_main.specs.Reads.{Accepted, EndsPhases, EndsCommand}
 use Rattle.ct_main.specs.Outcomes.{IsOutcomeOf}
-use Rattle.ct_main.specs.Texts.{IsJobFor}
+use Rattle.ct_main.specs.Texts.{IsJobFor, IsComparison, IsPairFor}
 use Rattle.ct_main.specs.Causes.{Refuses}
+use Rattle.ct_main.specs.Status.{outcome_status, ended_status}
 
 -- the shelf was asked for this name, and for no other
 abbrev pub AskedForName : Reading → List ℕ → Type 0
@@ -51,6 +53,12 @@ abbrev pub Gives : {T : Type 0} → Reading → List Phase → (List (List ℕ) 
 Gives reading phases Says result =
     MatchResult result (λ made. PassedWith reading phases (λ contents. Says contents made)) (EndsPhases reading phases)
 
+-- phases give what their files stand for, or the refusal of one of them, whatever phases follow
+abbrev pub GivesFirst : {T : Type 0} → Reading → List Phase → (List (List ℕ) → T → Type 0) → Result T Refusal → Type 0
+GivesFirst reading phases Says result = MatchResult result
+    (λ made. PassedWith reading phases (λ contents. Says contents made))
+    (λ refusal. (rest : List Phase) → EndsPhases reading (phases ++ rest) refusal)
+
 -- the job has one input byte, a secret one
 pub record HasOneSecret (job : Job) : Type 0 where
   pub public : public_count job.inputs ≡ 0
@@ -59,6 +67,7 @@ pub record HasOneSecret (job : Job) : Type 0 where
 -- what a task needs
 abbrev pub CanDo : Task → Type 0
 CanDo (tasks.Check job) = HasOneSecret job
+CanDo (tasks.Replay job pair) = IsPair job pair
 CanDo (tasks.Trace job) = HasOneSecret job
 CanDo (tasks.List elf) = FitsMemory (segment_extents elf)
 
@@ -67,6 +76,8 @@ abbrev pub IsTaskOf : Command → List (List ℕ) → Task → Type 0
 IsTaskOf (Byte binary entry bound) contents (tasks.Check job) = IsJobFor (Byte binary entry bound) contents job
 IsTaskOf (Check binary policy bound workers budget targets) contents (tasks.Check job) =
     IsJobFor (Check binary policy bound workers budget targets) contents job
+IsTaskOf (Replay binary policy name) contents (tasks.Replay job pair) =
+    IsJobFor (Replay binary policy name) contents job × IsPairFor contents job pair
 IsTaskOf (Trace binary entry bound) contents (tasks.Trace job) = IsJobFor (Trace binary entry bound) contents job
 IsTaskOf (Listing binary) contents (tasks.List elf) = elf ≡ program_of contents
 IsTaskOf _ contents _ = ⊥
@@ -81,12 +92,20 @@ pub record IsPrepared (reading : Reading) (command : Command) (task : Task) : Ty
 abbrev pub Prepares : Reading → Command → Result Task Refusal → Type 0
 Prepares reading command result = MatchResult result (IsPrepared reading command) (EndsCommand reading (phases_of command))
 
--- what came of a task: the outcome of a check, and the whole text, unless memory was wanted
+-- the report of a job and of the outcome of its check, with the status of the verdict
+pub record IsReported (job : Job) (outcome : Outcome) (status : ℕ) (text : List ℕ) : Type 0 where
+  pub status_is : status ≡ outcome_status outcome
+  pub text_is : text ≡ report_of job outcome
+
+-- what came of a task: the outcome of a check, and the whole text with its status, unless memory was wanted
 abbrev pub IsDone : Task → Made → Type 0
 IsDone (tasks.Check job) made =
-    IfSome made.outcome (IsOutcomeOf job) × IfOk made.text (λ text. IsSomeAnd made.outcome (λ outcome. text ≡ report_of job outcome))
-IsDone (tasks.Trace job) made = (made.outcome ≡ None) × IfOk made.text (λ text. text ≡ trace_of job)
-IsDone (tasks.List elf) made = (made.outcome ≡ None) × IfOk made.text (λ text. text ≡ list_of (cells_of elf []))
+    IfSome made.outcome (IsOutcomeOf job)
+    × IfOk made.text (λ text. IsSomeAnd made.outcome (λ outcome. IsReported job outcome made.status text))
+IsDone (tasks.Replay job pair) made = (made.outcome ≡ None) × IfOk made.text (IsComparison job pair made.status)
+IsDone (tasks.Trace job) made = (made.outcome ≡ None) × IfOk made.text (λ text. (made.status ≡ 0) × (text ≡ trace_of job))
+IsDone (tasks.List elf) made =
+    (made.outcome ≡ None) × IfOk made.text (λ text. (made.status ≡ 0) × (text ≡ list_of (cells_of elf [])))
 
 -- the task of the words and their files, or why there is none
 abbrev pub Finds : Option Command → Reading → Result Task Refusal → Type 0
@@ -102,8 +121,9 @@ WroteMade writing (Err error) None = ⊥
 WroteMade writing (Err error) (Some refusal) = (refusal ≡ Memory) × WroteNothing writing
 
 -- a task was done and its text written
-pub record IsDelivered (task : Task) (writing : Writing) (outcome : Option Outcome) (refusal : Option Refusal) : Type 0 where
+pub record IsDelivered (task : Task) (writing : Writing) (status : ℕ) (outcome : Option Outcome) (refusal : Option Refusal) : Type 0 where
   pub made : Made
   pub done : IsDone task made
   pub outcome_is : outcome ≡ made.outcome
+  pub status_is : status ≡ ended_status made.status refusal
   pub wrote : WroteMade writing made.text refusal

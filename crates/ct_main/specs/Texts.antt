@@ -2,22 +2,36 @@
 use Rattle.std.specs.Prelude.{◌≡◌, ℕ, List, [], Option, None, IsSomeAnd}
 use Rattle.rv_image.specs.Loading.{cells_of}
 use Rattle.ct_lines.specs.declared.command.Command.{Command}
-use Rattle.ct_lines.specs.declared.command.Command.TheVariants.{Byte, Check, Trace, List as Listing}
+use Rattle.ct_lines.specs.declared.command.Command.TheVariants.{Byte, Check, Replay, Trace, List as Listing}
 use Rattle.ct_pairs.specs.declared.job.Job.{Job}
+use Rattle.ct_pairs.specs.declared.limits.TheConstants.{USUAL_BUDGET, USUAL_TARGETS}
+use Rattle.ct_pairs.specs.declared.pair.Pair.{Pair}
+use Rattle.ct_pairs.specs.Pair.{IsPair}
+use Rattle.ct_policy.specs.declared.options.Options.{Options}
 use Rattle.ct_policy.specs.ByteJob.{IsByteJobAt}
 use Rattle.ct_policy.specs.Job.{IsJobOfBytes}
 use Rattle.ct_report.specs.declared.outcome.Outcome.{Outcome}
 use Rattle.ct_report.specs.Report.{report_of}
 use Rattle.ct_listing.specs.Trace.{trace_of}
 use Rattle.ct_listing.specs.List.{list_of}
-use Rattle.ct_main.specs.Phases.{program_of, policy_bytes}
+use Rattle.pair_replay.specs.declared.replayed.Replayed.{Replayed}
+use Rattle.pair_replay.specs.PairText.{pair_text}
+use Rattle.pair_replay.specs.Replaying.{IsReplayed}
+use Rattle.pair_replay.specs.ReplayText.{replay_text}
+use Rattle.ct_main.specs.Phases.{program_of, policy_bytes, pair_bytes}
 use Rattle.ct_main.specs.Outcomes.{IsOutcomeOf}
+use Rattle.ct_main.specs.Status.{outcome_status, replay_status}
+
+-- what a replay takes beside its policy: the usual budget and targets, which no run looks at
+abbrev pub replay_options : Options
+replay_options = record { bound = None; budget = USUAL_BUDGET; targets = USUAL_TARGETS }
 
 -- the job of a command and what its files hold: that of one secret byte at the entry, or that of the policy
 abbrev pub IsJobFor : Command → List (List ℕ) → Job → Type 0
 IsJobFor (Byte binary entry bound) contents job = IsByteJobAt (program_of contents) entry bound job
 IsJobFor (Check binary policy bound workers budget targets) contents job =
     IsJobOfBytes (program_of contents) (record { bound = bound; budget = budget; targets = targets }) (policy_bytes contents) job
+IsJobFor (Replay binary policy pair) contents job = IsJobOfBytes (program_of contents) replay_options (policy_bytes contents) job
 IsJobFor (Trace binary entry bound) contents job = IsByteJobAt (program_of contents) entry bound job
 IsJobFor _ contents job = ⊥
 
@@ -40,8 +54,32 @@ pub record IsTrace (command : Command) (contents : List (List ℕ)) (text : List
   pub job_is : IsJobFor command contents job
   pub text_is : text ≡ trace_of job
 
--- the text for which a command asks: a trace, a list of words, or a check's report with its outcome
-abbrev pub IsTextOf : Command → List (List ℕ) → Option Outcome → List ℕ → Type 0
-IsTextOf (Trace binary entry bound) contents outcome text = (outcome ≡ None) × IsTrace (Trace binary entry bound) contents text
-IsTextOf (Listing binary) contents outcome text = (outcome ≡ None) × (text ≡ list_of (cells_of (program_of contents) []))
-IsTextOf command contents outcome text = IsSomeAnd outcome (λ found. IsReport command contents found text)
+-- how the two starts of a pair compare, and the status that says so
+pub record IsComparison (job : Job) (pair : Pair) (status : ℕ) (text : List ℕ) : Type 0 where
+  pub replayed : Replayed
+  pub replayed_is : IsReplayed job pair replayed
+  pub status_is : status ≡ replay_status replayed
+  pub text_is : text ≡ replay_text replayed
+
+-- the pair of the job that the third file has
+pub record IsPairFor (contents : List (List ℕ)) (job : Job) (pair : Pair) : Type 0 where
+  pub is_pair : IsPair job pair
+  pub text_is : pair_bytes contents ≡ pair_text pair
+
+-- the replay of the command's pair
+pub record IsReplay (command : Command) (contents : List (List ℕ)) (status : ℕ) (text : List ℕ) : Type 0 where
+  pub job : Job
+  pub job_is : IsJobFor command contents job
+  pub pair : Pair
+  pub pair_is : IsPairFor contents job pair
+  pub comparison : IsComparison job pair status text
+
+-- the text for which a command asks, with its outcome and status: a replay, a trace, a list of words, or a check's report
+abbrev pub IsTextOf : Command → List (List ℕ) → Option Outcome → ℕ → List ℕ → Type 0
+IsTextOf (Replay binary policy pair) contents outcome status text = (outcome ≡ None) × IsReplay (Replay binary policy pair) contents status text
+IsTextOf (Trace binary entry bound) contents outcome status text =
+    (outcome ≡ None) × (status ≡ 0) × IsTrace (Trace binary entry bound) contents text
+IsTextOf (Listing binary) contents outcome status text =
+    (outcome ≡ None) × (status ≡ 0) × (text ≡ list_of (cells_of (program_of contents) []))
+IsTextOf command contents outcome status text =
+    IsSomeAnd outcome (λ found. (status ≡ outcome_status found) × IsReport command contents found text)

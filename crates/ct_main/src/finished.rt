@@ -9,7 +9,8 @@ use ct_report::{Finding, Outcome};
 /// How a call of the program ended.
 #[derive(Debug, Drop)]
 pub struct Finished {
-    /// The exit status: 0 secure, or a whole trace or list; 1 insecure; 2 unknown; and from 64 on a refusal's.
+    /// The exit status: 0 secure, runs that agree, or a whole trace or list; 1 insecure, or runs that
+    /// differ; 2 unknown; and from 64 on a refusal's.
     pub status: u8,
     /// What the check found, where it ran to its end.
     pub outcome: Option<Outcome>,
@@ -18,7 +19,7 @@ pub struct Finished {
 }
 
 impl Finished {
-    ghost use Rattle.ct_main.specs.Status.{refusal_status, status_of};
+    ghost use Rattle.ct_main.specs.Status.{refusal_status, ended_status};
 
     /// The end of a call that ran nothing.
     pub(crate) fn refused(refusal: Refusal) -> Self
@@ -31,14 +32,13 @@ impl Finished {
         }
     }
 
-    /// The end of a call whose files passed, with the outcome of a check.
-    pub(crate) fn ended(outcome: Option<Outcome>, refusal: Option<Refusal>) -> Self
-        ensures { result ≡ record { status = status_of outcome refusal; outcome = outcome; refusal = refusal } }
+    /// The end of a call whose files passed, with the status of the text and the outcome of a check.
+    pub(crate) fn ended(status: u8, outcome: Option<Outcome>, refusal: Option<Refusal>) -> Self
+        ensures { result ≡ record { status = ended_status status refusal; outcome = outcome; refusal = refusal } }
     {
-        let status = match (&refusal, &outcome) {
-            (Some(refusal), _) => refusal.status(),
-            (None, Some(outcome)) => finding_status(outcome.verdict()),
-            (None, None) => 0,
+        let status = match refusal {
+            Some(refusal) => refusal.status(),
+            None => status,
         };
         Finished {
             status,
@@ -49,7 +49,7 @@ impl Finished {
 }
 
 /// The exit status of a check whose whole report was written.
-fn finding_status(finding: Finding) -> u8
+pub(crate) fn finding_status(finding: Finding) -> u8
     ensures { result ≡ finding_code finding }
 {
     match finding {

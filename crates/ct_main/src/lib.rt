@@ -4,6 +4,7 @@
 mod errors;
 mod files;
 mod finished;
+mod laws;
 mod made;
 mod output;
 mod preparation;
@@ -14,6 +15,7 @@ mod task;
 
 pub use errors::tell;
 pub use finished::Finished;
+pub use laws::leak_sites_law;
 pub use process::{finish, run};
 pub use program::{ASKED_BEFORE, ctrel};
 pub use refusal::Refusal;

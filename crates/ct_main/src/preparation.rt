@@ -4,12 +4,13 @@ ghost use Rattle.std.specs.Prelude.{◌≡◌, ◌≤◌, ◌∷◌, [], length,
 ghost use Rattle.elf_load.specs.Layout.{FitsMemory, segment_extents};
 ghost use Rattle.ct_pairs.specs.Limits.{IsBound};
 ghost use Rattle.ct_lines.specs.Commands.{AreWithinLimits};
+ghost use Rattle.ct_lines.specs.declared.command.Command.TheVariants.{Replay};
 ghost use Rattle.ct_policy.specs.ByteJob.{IsByteJobAt};
 ghost use Rattle.ct_policy.specs.Job.{IsJobOfBytes};
 ghost use Rattle.ct_policy.specs.Limits.{AreOptions};
 ghost use Rattle.ct_main.specs.Outside.{read_of};
-ghost use Rattle.ct_main.specs.Phases.{executable_rules, routine_rules, policy_rules, program_of, policy_bytes, is_one_secret as is_one_secret_list};
-ghost use Rattle.ct_main.specs.Tasks.{Gives, HasOneSecret, CanDo, Prepares};
+ghost use Rattle.ct_main.specs.Phases.{executable_rules, routine_rules, policy_rules, one_secret_rules, pair_rules, program_of, policy_bytes, is_one_secret as is_one_secret_list};
+ghost use Rattle.ct_main.specs.Tasks.{Gives, GivesFirst, HasOneSecret, CanDo, IsTaskOf, Prepares};
 
 use crate::files::{load_file, read_file};
 use crate::program::ASKED_BEFORE;
@@ -17,10 +18,11 @@ use crate::refusal::Refusal;
 use crate::task::Task;
 use ct_lines::Command;
 use ct_outside::Shelf;
-use ct_pairs::{Entry, InputByte, Job};
+use ct_pairs::{Entry, InputByte, Job, USUAL_BUDGET, USUAL_TARGETS};
 use ct_policy::{Options, byte_job, read};
 use ct_rows::Text;
 use elf_load::Elf;
+use pair_replay::{bad_line_law, read_pair};
 use std::alloc::Global;
 
 /// Whether there is one input byte, a secret one.
@@ -54,7 +56,7 @@ fn routine_job<F: Shelf>(
 }
 
 /// The job of a policy of one secret byte.
-fn policy_job<F: Shelf>(
+fn one_secret_job<F: Shelf>(
     alloc: Global,
     shelf: &mut F,
     binary: &Text,
@@ -65,7 +67,7 @@ fn policy_job<F: Shelf>(
     requires options { AreOptions options.now }
     ensures job { Gives
         (read_of F.files F.asked F.given F.faults shelf.old shelf.new)
-        ((binary.now, executable_rules) ∷ (policy.now, policy_rules) ∷ [])
+        ((binary.now, executable_rules) ∷ (policy.now, one_secret_rules) ∷ [])
         (λ contents job. IsJobOfBytes (program_of contents) options.now (policy_bytes contents) job) result }
     ensures one_secret { IfOk result HasOneSecret }
 {
@@ -76,6 +78,55 @@ fn policy_job<F: Shelf>(
         return Err(Refusal::Later);
     }
     Ok(job)
+}
+
+/// The job of a policy.
+fn policy_job<F: Shelf>(
+    alloc: Global,
+    shelf: &mut F,
+    binary: &Text,
+    policy: &Text,
+    options: &Options,
+) -> Result<Job, Refusal>
+    requires room { length (F.asked shelf.old) ≤ ASKED_BEFORE }
+    requires options { AreOptions options.now }
+    ensures job { GivesFirst
+        (read_of F.files F.asked F.given F.faults shelf.old shelf.new)
+        ((binary.now, executable_rules) ∷ (policy.now, policy_rules) ∷ [])
+        (λ contents job. IsJobOfBytes (program_of contents) options.now (policy_bytes contents) job) result }
+    ensures counts { F.faults shelf.old ≤ F.faults shelf.new }
+    ensures same_files { F.files shelf.new ≡ F.files shelf.old }
+{
+    let elf = load_file(alloc, read_file(alloc, shelf, binary)?)?;
+    let bytes = read_file(alloc, shelf, policy)?;
+    Ok(read(alloc, bytes.as_slice(), &elf, options)?)
+}
+
+/// The job of a policy and a pair of its starts.
+fn replay_task<F: Shelf>(
+    alloc: Global,
+    shelf: &mut F,
+    binary: &Text,
+    policy: &Text,
+    pair: &Text,
+) -> Result<Task, Refusal>
+    requires { length (F.asked shelf.old) ≤ ASKED_BEFORE }
+    ensures task { Gives
+        (read_of F.files F.asked F.given F.faults shelf.old shelf.new)
+        ((binary.now, executable_rules) ∷ (policy.now, policy_rules) ∷ (pair.now, pair_rules) ∷ [])
+        (λ contents task. IsTaskOf (Replay binary.now policy.now pair.now) contents task) result }
+    ensures can { IfOk result CanDo }
+{
+    let options = Options {
+        bound: None,
+        budget: USUAL_BUDGET,
+        targets: USUAL_TARGETS,
+    };
+    let job = policy_job(alloc, shelf, binary, policy, &options)?;
+    let bytes = read_file(alloc, shelf, pair)?;
+    bad_line_law(bytes.as_slice(), &job);
+    let start = read_pair(alloc, bytes.as_slice(), &job)?;
+    Ok(Task::Replay(job, start))
 }
 
 /// The executable of a file.
@@ -117,15 +168,20 @@ pub fn prepare<F: Shelf>(alloc: Global, shelf: &mut F, command: &Command) -> Res
                 budget: *budget,
                 targets: *targets,
             };
-            let job = policy_job(alloc, shelf, binary, policy, &options);
+            let job = one_secret_job(alloc, shelf, binary, policy, &options);
             Ok(Task::Check(job?))
         }
+        Command::Replay {
+            binary,
+            policy,
+            pair,
+        } => replay_task(alloc, shelf, binary, policy, pair),
         Command::Trace {
             binary,
             entry,
             bound,
         } => Ok(Task::Trace(routine_job(alloc, shelf, binary, entry, *bound)?)),
         Command::List { binary } => Ok(Task::List(executable(alloc, shelf, binary)?)),
-        Command::Replay { .. } | Command::Gen { .. } => Err(Refusal::Later),
+        Command::Gen { .. } => Err(Refusal::Later),
     }
 }

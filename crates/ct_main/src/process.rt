@@ -2,7 +2,7 @@
 
 ghost use Rattle.std.specs.Prelude.{◌≡◌};
 ghost use Rattle.std.specs.Process.{exit_status};
-ghost use Rattle.ct_main.specs.Status.{status_of};
+ghost use Rattle.ct_main.specs.Status.{HasStatus};
 
 use crate::errors::tell;
 use crate::finished::Finished;
@@ -25,7 +25,7 @@ fn words_of(rt: &HostRuntime) -> Result<Vec<String>, Refusal> {
 
 /// Runs the program on the words that the process was given, over the real files and the real output.
 pub fn run(rt: &HostRuntime) -> Finished
-    ensures { result.status ≡ status_of result.outcome result.refusal }
+    ensures { HasStatus result.outcome result.refusal result.status }
 {
     let words = match words_of(rt) {
         Ok(words) => words,

@@ -4,7 +4,7 @@ ghost use Rattle.std.specs.Prelude.{◌≡◌, ◌≤◌, length, map, IfOk};
 ghost use Rattle.std.specs.String.{string_bytes};
 ghost use Rattle.ct_lines.specs.Commands.{command_of};
 ghost use Rattle.ct_main.specs.Outside.{read_of, wrote_of};
-ghost use Rattle.ct_main.specs.Status.{status_of};
+ghost use Rattle.ct_main.specs.Status.{HasStatus};
 ghost use Rattle.ct_main.specs.Answer.{IsAnswer};
 ghost use Rattle.ct_main.specs.Tasks.{CanDo, Finds, IsDelivered};
 
@@ -36,21 +36,24 @@ fn find_task<F: Shelf>(alloc: Global, words: &[String], shelf: &mut F) -> Result
 /// Does a task and writes its whole text.
 fn deliver<S: Sink>(alloc: Global, task: Task, out: &mut S) -> Finished
     requires { CanDo task }
-    ensures delivered { IsDelivered task
-        (wrote_of S.written S.sure S.faults out.old out.new) result.outcome result.refusal }
-    ensures status { result.status ≡ status_of result.outcome result.refusal }
+    ensures { IsDelivered task
+        (wrote_of S.written S.sure S.faults out.old out.new) result.status result.outcome result.refusal }
 {
-    let Made { outcome, text } = Made::by_task(alloc, task);
+    let Made {
+        status,
+        outcome,
+        text,
+    } = Made::by_task(alloc, task);
     let refusal = write_made(text, out).err();
-    Finished::ended(outcome, refusal)
+    Finished::ended(status, outcome, refusal)
 }
 
 /// Runs the program on the words after its name.
 ///
 /// It reads the files that the words name, does what they ask, makes the whole text and then
 /// writes it; what it answers is the status to end with, the outcome of a check, and the refusal to
-/// print. Its time and its memory are those of `byte_check`, `trace_text` or `list_text`, beside
-/// the files, the image and the text.
+/// print. Its time and its memory are those of `byte_check`, `replay`, `trace_text` or `list_text`,
+/// beside the files, the image and the text.
 pub fn ctrel<F: Shelf, S: Sink>(
     alloc: Global,
     words: &[String],
@@ -62,8 +65,8 @@ pub fn ctrel<F: Shelf, S: Sink>(
         (command_of (map string_bytes words.now))
         (read_of F.files F.asked F.given F.faults shelf.old shelf.new)
         (wrote_of S.written S.sure S.faults out.old out.new)
-        result.outcome result.refusal }
-    ensures status { result.status ≡ status_of result.outcome result.refusal }
+        result.status result.outcome result.refusal }
+    ensures status { HasStatus result.outcome result.refusal result.status }
 {
     match find_task(alloc, words, shelf) {
         Ok(task) => deliver(alloc, task, out),

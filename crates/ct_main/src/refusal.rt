@@ -2,12 +2,13 @@
 
 ghost use Rattle.std.specs.Prelude.{◌≡◌};
 ghost use Rattle.ct_main.specs.declared.refusal.Refusal.TheVariants.{Memory, WriteFault};
-ghost use Rattle.ct_main.specs.Refusals.{words_refusal, read_refusal, elf_refusal, policy_refusal};
+ghost use Rattle.ct_main.specs.Refusals.{words_refusal, read_refusal, elf_refusal, policy_refusal, pair_refusal};
 
 use ct_lines::WordsRefusal;
 use ct_outside::{ReadEnd, WriteEnd};
 use ct_policy::PolicyRefusal;
 use elf_load::ElfRefusal;
+use pair_replay::PairRefusal;
 use std::alloc::AllocError;
 use thiserror::Error;
 
@@ -27,6 +28,9 @@ pub enum Refusal {
     /// A file has more than `ct_outside::LONGEST` bytes.
     #[error("long")]
     Long,
+    /// This line of the pair's text, counted from 1, is the first that isn't as it is to be.
+    #[error("pair line {0}")]
+    PairText(u32),
     /// The command, or a check of other inputs than one secret byte, isn't built yet.
     #[error("later")]
     Later,
@@ -53,6 +57,7 @@ impl Refusal {
             Refusal::Elf(_) => 65,
             Refusal::Policy(_) => 66,
             Refusal::Long => 67,
+            Refusal::PairText(_) => 68,
             Refusal::Later => 69,
             Refusal::Memory => 70,
             Refusal::ReadFault => 74,
@@ -110,6 +115,17 @@ impl From<PolicyRefusal> for Refusal {
         match rule {
             PolicyRefusal::Memory => Refusal::Memory,
             rule => Refusal::Policy(rule),
+        }
+    }
+}
+
+impl From<PairRefusal> for Refusal {
+    ghost from_gives = { λ pair refusal. refusal ≡ pair_refusal pair };
+
+    fn from(pair: PairRefusal) -> Self {
+        match pair {
+            PairRefusal::Memory => Refusal::Memory,
+            PairRefusal::Line(line) => Refusal::PairText(line),
         }
     }
 }

@@ -1,6 +1,6 @@
 //! What remains to be done once a command's files have passed.
 
-use ct_pairs::Job;
+use ct_pairs::{Job, Pair};
 use elf_load::Elf;
 
 /// What remains to be done once a command's files have passed.
@@ -8,6 +8,8 @@ use elf_load::Elf;
 pub(crate) enum Task {
     /// Check the job and report what was found.
     Check(Job),
+    /// Run both starts of the pair and show how the runs compare.
+    Replay(Job, Pair),
     /// Show each step of the job's run with byte 0.
     Trace(Job),
     /// Show every word of the executable that can be executed.

@@ -1,8 +1,10 @@
 //! What no clause says: the lines on standard error, and that a call succeeds.
 
+ghost use Rattle.std.specs.Prelude.{◌≡◌, [], IfOk};
+
 use super::*;
 use ct_lines::usage_text;
-use ct_outside::MemorySink;
+use ct_outside::{MemoryShelf, MemorySink};
 use ct_policy::PolicyRefusal;
 use elf_load::ElfRefusal;
 use std::alloc::{AllocError, Global};
@@ -61,6 +63,7 @@ fn each_refusal_has_its_line(rt: HostRuntime) -> Result<(), Fail> {
         ),
         (Refusal::Policy(PolicyRefusal::Entry), "ctrel: policy P10\n"),
         (Refusal::Long, "ctrel: long\n"),
+        (Refusal::PairText(4), "ctrel: pair line 4\n"),
         (Refusal::Later, "ctrel: later\n"),
         (Refusal::Memory, "ctrel: memory\n"),
         (Refusal::ReadFault, "ctrel: read\n"),
@@ -90,7 +93,75 @@ fn refused_words_are_followed_by_the_usage(rt: HostRuntime) -> Result<(), Fail> 
 #[test]
 fn without_a_refusal_nothing_is_told(rt: HostRuntime) -> Result<(), Fail> {
     let mut errors = errors(rt.alloc(), NEVER)?;
-    tell(rt.alloc(), &Finished::ended(None, None), &mut errors);
+    tell(rt.alloc(), &Finished::ended(0, None, None), &mut errors);
     assert_eq!(rt; errors.written().len(), 0);
+    Ok(())
+}
+
+// An executable of beq a0, zero, +8 and twice jalr zero, 0(ra), its only header's size 84.
+const BRANCH: &[u8] = b"\x7fELF\x01\x01\x01\0\0\0\0\0\0\0\0\0\x02\0\xf3\0\x01\0\0\0\
+    \x54\0\x01\0\x34\0\0\0\0\0\0\0\0\0\0\0\x34\0\x20\0\x01\0\0\0\0\0\0\0\
+    \x01\0\0\0\x54\0\0\0\x54\0\x01\0\x54\0\x01\0\x0c\0\0\0\x0c\0\0\0\x05\0\0\0\x04\0\0\0\
+    \x63\x04\x05\0\x67\x80\0\0\x67\x80\0\0";
+
+const ONE_SECRET: &str = "format = 1\n[[input]]\nregister = \"a0\"\nbytes = 1\nkind = \"secret\"\n";
+
+// A shelf of that executable, of a policy of one secret byte in a0, and of a pair's text.
+fn shelf(alloc: Global, pair: &str) -> Result<MemoryShelf, AllocError>
+    ensures { IfOk result (λ shelf. shelf.asked ≡ []) }
+{
+    let mut files = Vec::new(alloc);
+    for (name, bytes) in [
+        ("binary", BRANCH),
+        ("policy", ONE_SECRET.as_bytes()),
+        ("pair", pair.as_bytes()),
+    ] {
+        files.push((
+            String::from_str(alloc, name)?,
+            Vec::from_slice(alloc, bytes)?,
+        ))?;
+    }
+    MemoryShelf::new(alloc, files, vec![in alloc; NEVER]?, 40)
+}
+
+#[test]
+fn pairs_are_replayed_or_refused(rt: HostRuntime) -> Result<(), Fail> {
+    let alloc = rt.alloc();
+    let words = vec![in alloc;
+        String::from_str(alloc, "replay")?,
+        String::from_str(alloc, "binary")?,
+        String::from_str(alloc, "policy")?,
+        String::from_str(alloc, "pair")?,
+    ]?;
+    // A pair's text, the status, what is written, and what is told.
+    for (pair, status, text, line) in [
+        (
+            "pair 1\nshared -\nleft 00\nright 01\n",
+            1,
+            "differ step 1 site 0x00010054\nleft touch - next 0x0001005c\nright touch - next 0x00010058\n",
+            "",
+        ),
+        (
+            "pair 1\nshared -\nleft 01\nright 02\n",
+            0,
+            "agree steps 2\n",
+            "",
+        ),
+        (
+            "pair 1\nshared -\nleft 00\n",
+            68,
+            "",
+            "ctrel: pair line 4\n",
+        ),
+    ] {
+        let mut shelf = shelf(alloc, pair)?;
+        let mut out = errors(alloc, NEVER)?;
+        let finished = ctrel(alloc, words.as_slice(), &mut shelf, &mut out);
+        assert_eq!(rt; finished.status, status, "{pair:?}");
+        assert_eq!(rt; out.written(), text.as_bytes(), "{pair:?}");
+        let mut told = errors(alloc, NEVER)?;
+        tell(alloc, &finished, &mut told);
+        assert_eq!(rt; told.written(), line.as_bytes(), "{pair:?}");
+    }
     Ok(())
 }

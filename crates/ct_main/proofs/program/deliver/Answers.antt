@@ -11,12 +11,13 @@ wrote_of_result : {T : Type 0} (writing : Writing) (text : Result (List ℕ) All
 wrote_of_result writing text (Ok done) whole failed = whole
 wrote_of_result writing text (Err refusal) whole failed = failed
 
-pub returns-clause-delivered : goal.returns-clause-delivered
-returns-clause-delivered g c =
-    let wrote = wrote_of_result _ c.by_task-outcome.result.text c.write_made.result c.write_made.ensures.whole c.write_made.ensures.failed in
+pub returns : goal.returns
+returns g c =
+    let wrote = wrote_of_result _ c.by_task-status.result.text c.write_made.result c.write_made.ensures.whole c.write_made.ensures.failed in
     rw c.ended.ensures (record {
-      made = c.by_task-outcome.result;
-      done = c.by_task-outcome.ensures;
+      made = c.by_task-status.result;
+      done = c.by_task-status.ensures;
       outcome_is = refl;
-      wrote = subst (WroteMade _ c.by_task-outcome.result.text) (sym c.err-refusal.ensures.value) wrote;
+      status_is = refl;
+      wrote = subst (WroteMade _ c.by_task-status.result.text) (sym c.err-refusal.ensures.value) wrote;
     })
