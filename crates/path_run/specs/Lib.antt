@@ -1,0 +1,9 @@
+pub mod Counting
+pub mod Records
+pub mod Walks
+pub mod Asking
+pub mod Stages
+pub mod Pairs
+pub mod Replays
+pub mod Telling
+pub mod Walking
