@@ -18,8 +18,7 @@ use Rattle.ct_main.specs.declared.made.Made.{Made}
 use Rattle.ct_main.specs.Outside.{Reading, Writing, WroteNothing}
 use Rattle.ct_main.specs.Phases.{Phase, phases_of}
 use Rattle.ct_main.specs.Reads.{EndsCommand}
-use Rattle.ct_main.specs.Outcomes.{IsOutcomeOf}
-use Rattle.ct_main.specs.Texts.{IsJobFor, IsCheck, IsComparison, IsReport, IsTextOf}
+use Rattle.ct_main.specs.Texts.{IsJobFor, IsOutcomeFor, IsCheck, IsComparison, IsReport, IsTextOf}
 use Rattle.ct_main.specs.Causes.{Accepts, WasChecked, Answered, Refuses}
 use Rattle.ct_main.specs.Complete.{IsComplete}
 use Rattle.ct_main.specs.Status.{refusal_status, outcome_status, replay_status, ended_status, HasStatus}
@@ -68,12 +67,12 @@ of_outcome None found P is holds = absurd cc
 of_outcome (Some other) found P is holds = let same : other ≡ found = cc in subst P same holds
 
 -- the outcome of a command's job
-checked : (command : Command) (contents : List (List ℕ)) (job : Job) (outcome : Option Outcome) (found : Outcome) → IsJobFor command contents job → IfSome outcome (IsOutcomeOf job) → outcome ≡ Some found → IsCheck command contents found
-checked command contents job outcome found job_is made is = record { job = job; job_is = job_is; outcome_is = of_outcome outcome found (IsOutcomeOf job) is made }
+checked : (command : Command) (contents : List (List ℕ)) (job : Job) (outcome : Option Outcome) (found : Outcome) → IsJobFor command contents job → IfSome outcome (IsOutcomeFor command job) → outcome ≡ Some found → IsCheck command contents found
+checked command contents job outcome found job_is made is = record { job = job; job_is = job_is; outcome_is = of_outcome outcome found (IsOutcomeFor command job) is made }
 
 -- what a task found is the outcome of the command's job
 check_of_task : (command : Command) (contents : List (List ℕ)) (task : Task) (made : Made) (found : Outcome) → IsTaskOf command contents task → IsDone task made → made.outcome ≡ Some found → IsCheck command contents found
-check_of_task (Byte binary entry bound) contents (tasks.Check job) made found task_is done is = checked (Byte binary entry bound) contents job made.outcome found task_is done.0 is
+check_of_task (Byte binary entry bound) contents (tasks.Byte job) made found task_is done is = checked (Byte binary entry bound) contents job made.outcome found task_is done.0 is
 check_of_task (Check binary policy bound workers budget targets) contents (tasks.Check job) made found task_is done is =
     checked (Check binary policy bound workers budget targets) contents job made.outcome found task_is done.0 is
 check_of_task (Replay binary policy name) contents (tasks.Replay job pair) made found task_is done is = absurd (let none = done.0 in cc)
@@ -82,7 +81,7 @@ check_of_task (Listing binary) contents (tasks.List elf) made found task_is done
 check_of_task _ contents _ made found task_is done is = absurd task_is
 
 -- the report of a command's job
-reported : (command : Command) (contents : List (List ℕ)) (job : Job) (outcome : Option Outcome) (status : ℕ) (text : List ℕ) → IsJobFor command contents job → IfSome outcome (IsOutcomeOf job) → IsSomeAnd outcome (λ found. IsReported job found status text) → IsSomeAnd outcome (λ found. (status ≡ outcome_status found) × IsReport command contents found text)
+reported : (command : Command) (contents : List (List ℕ)) (job : Job) (outcome : Option Outcome) (status : ℕ) (text : List ℕ) → IsJobFor command contents job → IfSome outcome (IsOutcomeFor command job) → IsSomeAnd outcome (λ found. IsReported job found status text) → IsSomeAnd outcome (λ found. (status ≡ outcome_status found) × IsReport command contents found text)
 reported command contents job None status text job_is made reported_is = absurd reported_is
 reported command contents job (Some found) status text job_is made reported_is =
     (reported_is.status_is, record { job = job; job_is = job_is; outcome_is = made; text_is = reported_is.text_is })
@@ -94,7 +93,7 @@ of_text (Err error) text P is holds = absurd cc
 
 -- the text of a task is the one for which the command asks
 text_of_task : (command : Command) (contents : List (List ℕ)) (task : Task) (made : Made) (text : List ℕ) → IsTaskOf command contents task → IsDone task made → made.text ≡ Ok text → IsTextOf command contents made.outcome made.status text
-text_of_task (Byte binary entry bound) contents (tasks.Check job) made text task_is done is =
+text_of_task (Byte binary entry bound) contents (tasks.Byte job) made text task_is done is =
     reported (Byte binary entry bound) contents job made.outcome made.status text task_is done.0
     (of_text made.text text (λ t. IsSomeAnd made.outcome (λ found. IsReported job found made.status t)) is done.1)
 text_of_task (Check binary policy bound workers budget targets) contents (tasks.Check job) made text task_is done is =

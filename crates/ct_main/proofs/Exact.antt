@@ -12,7 +12,7 @@ use Rattle.ct_pairs.specs.Sites.{AreLeakSites}
 use Rattle.ct_pairs.specs.Covered.{sites_of, CoversPairs}
 use Rattle.ct_entries.specs.Entries.{IsTrueListed}
 use Rattle.ct_report.specs.Report.{outcome_of}
-use Rattle.ct_main.specs.Outcomes.{IsOutcomeOf}
+use Rattle.ct_main.specs.Outcomes.{IsByteCheckOf}
 
 -- the sites of rows
 pub sites_are : (table : List Found) → map (λ (row : ℕ × ℕ). row.0) (sites_of table) ≡ map (λ (found : Found). found.site) table
@@ -20,7 +20,7 @@ sites_are [] = refl
 sites_are (found ∷ table) = ap (λ sites. found.site ∷ sites) (sites_are table)
 
 pub outcome_is : (job : Job) (table : ByteTable) → AreLeakSites job (sites_of table.sites) → All (λ found. IsLeastPair job found.site found.step found.pair) table.sites
-    → table.paths ≡ path_count job → CoversPairs job table.sites → IsOutcomeOf job (outcome_of table)
+    → table.paths ≡ path_count job → CoversPairs job table.sites → IsByteCheckOf job (outcome_of table)
 outcome_is job table sites pairs paths covered = record {
   check = record {
     every = λ pair is. inl (covered.every pair is);

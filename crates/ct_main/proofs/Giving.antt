@@ -1,5 +1,6 @@
 -- What the phases of a command give, by how its calls ended.
-use Rattle.std.proofs.Common.{◌≡◌, ◌≢◌, ◌∙◌, ◌≤◌, ◌<◌, ℕ, true, false, List, [], ◌∷◌, ◌++◌, length, Option, None, Some, option_map, Result, Ok, Err, IfSome, IsSomeAnd, refl, sym, ap, subst, inl, inr, arith, append_assoc}
+use Rattle.std.proofs.Common.{◌≡◌, ◌≢◌, ◌∙◌, ◌≤◌, ◌<◌, ℕ, List, [], ◌∷◌, ◌++◌, length, Option, None, Some, option_map, Result, Ok, Err, IfSome, IsSomeAnd, refl, sym, ap, subst, inl, inr, arith, append_assoc}
+use Rattle.std.specs.Prelude.{MatchResult}
 use Rattle.std.specs.Result.{IsErrAnd}
 use Rattle.elf_load.specs.declared.refusal.ElfRefusal.{ElfRefusal}
 use Rattle.elf_load.specs.declared.refusal.ElfRefusal.TheVariants as files
@@ -24,16 +25,16 @@ use Rattle.pair_replay.specs.declared.refusal.PairRefusal.TheVariants as pairs
 use Rattle.pair_replay.specs.PairText.{pair_text, wanted_lines, IsBadLine, HasBadLine}
 use Rattle.pair_replay.specs.FirstBadLine.{first_bad_line}
 use Rattle.ct_main.specs.declared.refusal.Refusal.{Refusal}
-use Rattle.ct_main.specs.declared.refusal.Refusal.TheVariants.{Elf as FileRule, Policy as PolicyRule, PairText, Later}
+use Rattle.ct_main.specs.declared.refusal.Refusal.TheVariants.{Elf as FileRule, Policy as PolicyRule, PairText}
 use Rattle.ct_main.specs.Refusals.{read_refusal, elf_refusal, policy_refusal, pair_refusal}
 use Rattle.ct_main.specs.Outside.{Reading, read_of, WasRead}
-use Rattle.ct_main.specs.Phases.{Phase, Rules, program_of, policy_bytes, policy_inputs, is_one_secret, executable_rules, routine_rules, policy_rules, one_secret_rules, pair_rules}
+use Rattle.ct_main.specs.Phases.{Phase, Rules, program_of, policy_bytes, policy_inputs, executable_rules, routine_rules, policy_rules, pair_rules}
 use Rattle.ct_main.specs.Reads.{Begun, Accepted, EndsPhases}
 use Rattle.ct_main.specs.Texts.{IsPairFor}
 use Rattle.ct_main.specs.Tasks.{AskedForName, IsRead, IsUnread, PassedWith, Gives, GivesFirst}
 use Rattle.ct_main.proofs.Passing.{first_accepted, second_accepted, first_begun, second_begun, rose_after}
 use Rattle.ct_main.proofs.Following.{next_begun, next_read, next_unread, next_accepted}
-use Rattle.ct_main.proofs.RuleLemmas.{executable_meets, routine_meets, routine_fails, policy_meets, policy_fails, one_secret_meets, one_secret_fails, one_secret_later, pair_is, inputs_are}
+use Rattle.ct_main.proofs.RuleLemmas.{executable_meets, routine_meets, routine_fails, policy_meets, policy_fails, pair_is, inputs_are}
 
 -- phases that ended give no more than that
 err_gives : {T : Type 0} (reading : Reading) (phases : List Phase) (Says : List (List ℕ) → T → Type 0) (result : Result T Refusal) (refusal : Refusal) → IsErrAnd result (λ r. r ≡ refusal) → EndsPhases reading phases refusal → Gives reading phases Says result
@@ -136,44 +137,6 @@ policy_accepted files asked given faults old mid new name other bytes policy rul
     (next_read files asked given faults old mid new other policy same read.read) passes
     (both_asked (asked old) (asked mid) (asked new) name other file.asks read.asks)
 
--- a check's policy wasn't read whole
-pub one_secret_unread_gives : {F T : Type 0} (files : F → Option (List ℕ → Option (List ℕ))) (asked : F → List (List ℕ)) (given faults : F → ℕ) (old mid new : F) (name other bytes : List ℕ) (Says : List (List ℕ) → T → Type 0) (result : Result T Refusal) (end : ReadEnd) → IsErrAnd result (λ r. r ≡ read_refusal end) → IsRead (read_of files asked given faults old mid) name bytes → first_refusal bytes ≡ None → files mid ≡ files old → faults old ≤ faults mid → IsUnread (read_of files asked given faults mid new) other end → Gives (read_of files asked given faults old new) (policy_phases name other one_secret_rules []) Says result
-one_secret_unread_gives files asked given faults old mid new name other bytes Says result end is file meets same counts why =
-    err_gives (read_of files asked given faults old new) (policy_phases name other one_secret_rules []) Says result (read_refusal end) is
-    (policy_unread_ends files asked given faults old mid new name other bytes one_secret_rules [] end file meets same counts why)
-
--- it meets not its rules
-pub one_secret_fails_gives : {F T : Type 0} (files : F → Option (List ℕ → Option (List ℕ))) (asked : F → List (List ℕ)) (given faults : F → ℕ) (old mid new : F) (name other bytes policy : List ℕ) (elf : Elf) (Says : List (List ℕ) → T → Type 0) (result : Result T Refusal) (rule : PolicyRefusal) → IsErrAnd result (λ r. r ≡ policy_refusal rule) → IsRead (read_of files asked given faults old mid) name bytes → first_refusal bytes ≡ None → elf ≡ elf_of bytes → files mid ≡ files old → IsRead (read_of files asked given faults mid new) other policy → (rule ≢ policies.Memory → first_policy_refusal elf policy ≡ Some rule) → Gives (read_of files asked given faults old new) (policy_phases name other one_secret_rules []) Says result
-one_secret_fails_gives files asked given faults old mid new name other bytes policy elf Says result rule is file meets elf_is same read fails =
-    err_gives (read_of files asked given faults old new) (policy_phases name other one_secret_rules []) Says result (policy_refusal rule) is
-    (policy_fails_ends files asked given faults old mid new name other bytes policy one_secret_rules [] rule file meets same read
-    (λ else. one_secret_fails bytes policy rule (subst (λ e. first_policy_refusal e policy ≡ Some rule) elf_is (fails else))))
-
--- it is one of other inputs than one secret byte
-pub one_secret_later_ends : {F : Type 0} (files : F → Option (List ℕ → Option (List ℕ))) (asked : F → List (List ℕ)) (given faults : F → ℕ) (old mid new : F) (name other bytes policy : List ℕ) (elf : Elf) (options : Options) (job : Job) → IsRead (read_of files asked given faults old mid) name bytes → first_refusal bytes ≡ None → elf ≡ elf_of bytes → files mid ≡ files old → IsRead (read_of files asked given faults mid new) other policy → IsJobOfBytes elf options policy job → is_one_secret job.inputs ≡ false → EndsPhases (read_of files asked given faults old new) (policy_phases name other one_secret_rules []) Later
-one_secret_later_ends files asked given faults old mid new name other bytes policy elf options job file meets elf_is same read job_is others =
-    let own = subst (λ e. IsJobOfBytes e options policy job) elf_is job_is in
-    let inputs = inputs_are (elf_of bytes) options policy job own in (
-      tt,
-      record {
-        last = policy_begun files asked given faults old mid new name other bytes one_secret_rules [] file meets read.asks;
-        bytes = policy;
-        read = next_read files asked given faults old mid new other policy same read.read;
-        first = one_secret_later bytes policy own.meets (ap is_one_secret inputs ∙ others);
-      },
-    )
-
--- its job
-pub one_secret_gives : {F : Type 0} (files : F → Option (List ℕ → Option (List ℕ))) (asked : F → List (List ℕ)) (given faults : F → ℕ) (old mid new : F) (name other bytes policy : List ℕ) (elf : Elf) (options : Options) (job : Job) → IsRead (read_of files asked given faults old mid) name bytes → first_refusal bytes ≡ None → elf ≡ elf_of bytes → files mid ≡ files old → IsRead (read_of files asked given faults mid new) other policy → IsJobOfBytes elf options policy job → is_one_secret job.inputs ≡ true → PassedWith (read_of files asked given faults old new) (policy_phases name other one_secret_rules []) (λ contents. IsJobOfBytes (program_of contents) options (policy_bytes contents) job)
-one_secret_gives files asked given faults old mid new name other bytes policy elf options job file meets elf_is same read job_is one =
-    let own = subst (λ e. IsJobOfBytes e options policy job) elf_is job_is in
-    let inputs = inputs_are (elf_of bytes) options policy job own in
-    record {
-      contents = bytes ∷ policy ∷ [];
-      accepted = policy_accepted files asked given faults old mid new name other bytes policy one_secret_rules file meets same read (one_secret_meets bytes policy own.meets (ap is_one_secret inputs ∙ one));
-      says = own;
-    }
-
 -- the executable of a policy's command wasn't read whole
 pub policy_no_file_gives : {T : Type 0} (reading : Reading) (name other : List ℕ) (Says : List (List ℕ) → T → Type 0) (result : Result T Refusal) (end : ReadEnd) → IsErrAnd result (λ r. r ≡ read_refusal end) → IsUnread reading name end → GivesFirst reading (policy_phases name other policy_rules []) Says result
 policy_no_file_gives reading name other Says result end is why =
@@ -207,6 +170,11 @@ policy_gives files asked given faults old mid new name other bytes policy elf op
       accepted = policy_accepted files asked given faults old mid new name other bytes policy policy_rules file meets same read (policy_meets bytes policy own.meets);
       says = own;
     }
+
+-- so ends a command that reads no more
+pub policy_ends_command : {T : Type 0} (reading : Reading) (name other : List ℕ) (Made : T → Type 0) (result : Result T Refusal) (refusal : Refusal) → IsErrAnd result (λ r. r ≡ refusal) → ((rest : List Phase) → EndsPhases reading (policy_phases name other policy_rules [] ++ rest) refusal) → MatchResult result Made (EndsPhases reading (policy_phases name other policy_rules []))
+policy_ends_command reading name other Made (Ok made) refusal is ends = absurd is
+policy_ends_command reading name other Made (Err found) refusal is ends = subst (EndsPhases reading (policy_phases name other policy_rules [])) (sym is) (ends [])
 
 -- the phases of a replay
 abbrev pub replay_phases : List ℕ → List ℕ → List ℕ → List Phase

@@ -8,4 +8,3 @@ pub mod Passing
 pub mod Following
 pub mod RuleLemmas
 pub mod Giving
-pub mod Counting

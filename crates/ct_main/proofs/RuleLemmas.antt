@@ -1,5 +1,5 @@
 -- When the rules of a command's files give no refusal, and which they give.
-use Rattle.std.proofs.Common.{◌≡◌, ℕ, true, false, List, [], ◌∷◌, Option, None, Some, option_map, refl, sym}
+use Rattle.std.proofs.Common.{◌≡◌, ℕ, List, [], ◌∷◌, Option, None, Some, option_map, refl, sym}
 use Rattle.elf_load.specs.declared.refusal.ElfRefusal.{ElfRefusal}
 use Rattle.elf_load.specs.declared.elf.Elf.{Elf}
 use Rattle.elf_load.specs.File.{first_refusal}
@@ -12,8 +12,8 @@ use Rattle.ct_policy.specs.ByteJob.{byte_refusal}
 use Rattle.ct_policy.specs.Job.{IsJobOfBytes}
 use Rattle.ct_policy.specs.Rules.{first_policy_refusal}
 use Rattle.pair_replay.specs.FirstBadLine.{first_bad_line}
-use Rattle.ct_main.specs.declared.refusal.Refusal.TheVariants.{Elf as FileRule, Policy as PolicyRule, PairText, Later}
-use Rattle.ct_main.specs.Phases.{policy_inputs, is_one_secret, executable_rules, routine_rules, policy_rules, one_secret_rules, pair_rules}
+use Rattle.ct_main.specs.declared.refusal.Refusal.TheVariants.{Elf as FileRule, Policy as PolicyRule, PairText}
+use Rattle.ct_main.specs.Phases.{policy_inputs, executable_rules, routine_rules, policy_rules, pair_rules}
 
 pub executable_meets : (bytes : List ℕ) → first_refusal bytes ≡ None → executable_rules (bytes ∷ []) ≡ None
 unfolding executable_rules
@@ -42,18 +42,6 @@ policy_meets bytes policy meets = rw meets refl
 pub policy_fails : (bytes policy : List ℕ) (rule : PolicyRefusal) → first_policy_refusal (elf_of bytes) policy ≡ Some rule → policy_rules (bytes ∷ policy ∷ []) ≡ Some (PolicyRule rule)
 unfolding policy_rules
 policy_fails bytes policy rule fails = rw fails refl
-
-pub one_secret_meets : (bytes policy : List ℕ) → first_policy_refusal (elf_of bytes) policy ≡ None → is_one_secret (policy_inputs (elf_of bytes) policy) ≡ true → one_secret_rules (bytes ∷ policy ∷ []) ≡ None
-unfolding one_secret_rules policy_rules
-one_secret_meets bytes policy meets one = rw (meets, one) refl
-
-pub one_secret_fails : (bytes policy : List ℕ) (rule : PolicyRefusal) → first_policy_refusal (elf_of bytes) policy ≡ Some rule → one_secret_rules (bytes ∷ policy ∷ []) ≡ Some (PolicyRule rule)
-unfolding one_secret_rules policy_rules
-one_secret_fails bytes policy rule fails = rw fails refl
-
-pub one_secret_later : (bytes policy : List ℕ) → first_policy_refusal (elf_of bytes) policy ≡ None → is_one_secret (policy_inputs (elf_of bytes) policy) ≡ false → one_secret_rules (bytes ∷ policy ∷ []) ≡ Some Later
-unfolding one_secret_rules policy_rules
-one_secret_later bytes policy meets others = rw (meets, others) refl
 
 pub pair_is : (bytes policy pair : List ℕ) (expected : Option ℕ) → first_bad_line (policy_inputs (elf_of bytes) policy) pair ≡ expected → pair_rules (bytes ∷ policy ∷ pair ∷ []) ≡ option_map (λ k. PairText k) expected
 unfolding pair_rules

@@ -17,7 +17,7 @@ pub record IsExactCheckOf (job : Job) (outcome : Outcome) : Type 0 where
   pub nothing : outcome.listed ≡ []
   pub doubts : outcome.doubts ≡ 0
 
--- both hold of every check today, since each is of one secret byte and runs all pairs
-pub record IsOutcomeOf (job : Job) (outcome : Outcome) : Type 0 where
+-- what the check of one secret byte promises, which runs all pairs: both
+pub record IsByteCheckOf (job : Job) (outcome : Outcome) : Type 0 where
   pub check : IsCheckOf job outcome
   pub exact : IsExactCheckOf job outcome

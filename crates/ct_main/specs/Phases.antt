@@ -1,5 +1,5 @@
 -- The phases of a command: it reads its files one after another, and holds each against its rules before it reads the next.
-use Rattle.std.specs.Prelude.{ℕ, nat_lt, ◌&&◌, ◌==◌, Bool, if◌then◌else◌, List, [], ◌∷◌, ◌++◌, length, map, slice_index_or, Option, None, Some, option_map, option_and_then}
+use Rattle.std.specs.Prelude.{ℕ, nat_lt, if◌then◌else◌, List, [], ◌∷◌, ◌++◌, length, map, slice_index_or, Option, None, Some, option_map, option_and_then}
 use Rattle.std.specs.List.{zip}
 use Rattle.std.specs.Option.{option_or, option_map_or}
 use Rattle.elf_load.specs.declared.elf.Elf.{Elf}
@@ -11,7 +11,6 @@ use Rattle.ct_lines.specs.declared.command.Command.TheVariants.{Byte, Check, Rep
 use Rattle.ct_lines.specs.Commands.{files_of}
 use Rattle.ct_pairs.specs.declared.entry.Entry.{Entry}
 use Rattle.ct_pairs.specs.declared.input_byte.InputByte.{InputByte}
-use Rattle.ct_pairs.specs.Inputs.{public_count, secret_count}
 use Rattle.ct_document.specs.Document.{document_of}
 use Rattle.ct_document.specs.Keys.{policy_of}
 use Rattle.ct_policy.specs.Policy.{all_input_bytes}
@@ -41,10 +40,6 @@ pair_bytes contents = slice_index_or contents 2 []
 abbrev pub policy_inputs : Elf → List ℕ → List InputByte
 policy_inputs elf bytes = option_map_or all_input_bytes (option_and_then (policy_of elf) (document_of bytes)) []
 
--- there is one input byte, a secret one
-abbrev pub is_one_secret : List InputByte → Bool
-is_one_secret inputs = public_count inputs == 0 && secret_count inputs == 1
-
 -- the rules of a file: the first refusal, if any, from what it and the files before it hold
 abbrev pub Rules : Type 0
 Rules = List (List ℕ) → Option Refusal
@@ -67,16 +62,10 @@ unfoldable pub pair_rules : Rules
 pair_rules contents =
     option_map (λ k. PairText k) (first_bad_line (policy_inputs (program_of contents) (policy_bytes contents)) (pair_bytes contents))
 
--- the rules of policies; then only a check of one secret byte is built today
-unfoldable pub one_secret_rules : Rules
-one_secret_rules contents =
-    option_or (policy_rules contents)
-    (if is_one_secret (policy_inputs (program_of contents) (policy_bytes contents)) then None else Some Later)
-
 -- the rules of each file of a command, in the order in which it reads them; None where it isn't built
 abbrev pub rules_of : Command → Option (List Rules)
 rules_of (Byte binary entry bound) = Some (routine_rules entry ∷ [])
-rules_of (Check binary policy bound workers budget targets) = Some (executable_rules ∷ one_secret_rules ∷ [])
+rules_of (Check binary policy bound workers budget targets) = Some (executable_rules ∷ policy_rules ∷ [])
 rules_of (Replay binary policy pair) = Some (executable_rules ∷ policy_rules ∷ pair_rules ∷ [])
 rules_of (Trace binary entry bound) = Some (routine_rules entry ∷ [])
 rules_of (Listing binary) = Some (executable_rules ∷ [])

@@ -61,7 +61,6 @@ abbrev pub IsRule : Refusal → Type 0
 IsRule (Elf rule) = rule ≢ files.Memory
 IsRule (Policy rule) = rule ≢ policies.Memory
 IsRule (PairText line) = Unit {0}
-IsRule Later = Unit {0}
 IsRule _ = ⊥
 
 -- why phases ended with this refusal

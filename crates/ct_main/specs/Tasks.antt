@@ -11,6 +11,7 @@ use Rattle.ct_pairs.specs.declared.job.Job.{Job}
 use Rattle.ct_pairs.specs.Inputs.{public_count, secret_count}
 use Rattle.ct_pairs.specs.Pair.{IsPair}
 use Rattle.ct_report.specs.Report.{report_of}
+use Rattle.ct_report.specs.Outcomes.{IsCheckOf}
 use Rattle.ct_listing.specs.Trace.{trace_of}
 use Rattle.ct_listing.specs.List.{list_of}
 use Rattle.ct_main.specs.declared.refusal.Refusal.{Refusal}
@@ -22,7 +23,7 @@ use Rattle.ct_main.specs.declared.made.Made.{Made}
 use Rattle.ct_main.specs.Outside.{Reading, Writing, AskedNothing, WasRead, WasLong, WasCutOff, WroteNothing, WroteWhole, WroteFront}
 use Rattle.ct_main.specs.Phases.{Phase, phases_of, program_of}
 use Rattle.ct_main.specs.Reads.{Accepted, EndsPhases, EndsCommand}
-use Rattle.ct_main.specs.Outcomes.{IsOutcomeOf}
+use Rattle.ct_main.specs.Outcomes.{IsByteCheckOf}
 use Rattle.ct_main.specs.Texts.{IsJobFor, IsComparison, IsPairFor}
 use Rattle.ct_main.specs.Causes.{Refuses}
 use Rattle.ct_main.specs.Status.{outcome_status, ended_status}
@@ -66,14 +67,15 @@ pub record HasOneSecret (job : Job) : Type 0 where
 
 -- what a task needs
 abbrev pub CanDo : Task → Type 0
-CanDo (tasks.Check job) = HasOneSecret job
+CanDo (tasks.Byte job) = HasOneSecret job
+CanDo (tasks.Check job) = Unit {0}
 CanDo (tasks.Replay job pair) = IsPair job pair
 CanDo (tasks.Trace job) = HasOneSecret job
 CanDo (tasks.List elf) = FitsMemory (segment_extents elf)
 
 -- the task of a command and of what its files hold
 abbrev pub IsTaskOf : Command → List (List ℕ) → Task → Type 0
-IsTaskOf (Byte binary entry bound) contents (tasks.Check job) = IsJobFor (Byte binary entry bound) contents job
+IsTaskOf (Byte binary entry bound) contents (tasks.Byte job) = IsJobFor (Byte binary entry bound) contents job
 IsTaskOf (Check binary policy bound workers budget targets) contents (tasks.Check job) =
     IsJobFor (Check binary policy bound workers budget targets) contents job
 IsTaskOf (Replay binary policy name) contents (tasks.Replay job pair) =
@@ -97,11 +99,14 @@ pub record IsReported (job : Job) (outcome : Outcome) (status : ℕ) (text : Lis
   pub status_is : status ≡ outcome_status outcome
   pub text_is : text ≡ report_of job outcome
 
+-- the text that was made, if there was memory for it, is the report of the outcome
+abbrev pub IsToldOf : Job → Made → Type 0
+IsToldOf job made = IfOk made.text (λ text. IsSomeAnd made.outcome (λ outcome. IsReported job outcome made.status text))
+
 -- what came of a task: the outcome of a check, and the whole text with its status, unless memory was wanted
 abbrev pub IsDone : Task → Made → Type 0
-IsDone (tasks.Check job) made =
-    IfSome made.outcome (IsOutcomeOf job)
-    × IfOk made.text (λ text. IsSomeAnd made.outcome (λ outcome. IsReported job outcome made.status text))
+IsDone (tasks.Byte job) made = IfSome made.outcome (IsByteCheckOf job) × IsToldOf job made
+IsDone (tasks.Check job) made = IfSome made.outcome (IsCheckOf job) × IsToldOf job made
 IsDone (tasks.Replay job pair) made = (made.outcome ≡ None) × IfOk made.text (IsComparison job pair made.status)
 IsDone (tasks.Trace job) made = (made.outcome ≡ None) × IfOk made.text (λ text. (made.status ≡ 0) × (text ≡ trace_of job))
 IsDone (tasks.List elf) made =

@@ -19,7 +19,8 @@ use Rattle.pair_replay.specs.PairText.{pair_text}
 use Rattle.pair_replay.specs.Replaying.{IsReplayed}
 use Rattle.pair_replay.specs.ReplayText.{replay_text}
 use Rattle.ct_main.specs.Phases.{program_of, policy_bytes, pair_bytes}
-use Rattle.ct_main.specs.Outcomes.{IsOutcomeOf}
+use Rattle.ct_report.specs.Outcomes.{IsCheckOf}
+use Rattle.ct_main.specs.Outcomes.{IsByteCheckOf}
 use Rattle.ct_main.specs.Status.{outcome_status, replay_status}
 
 -- what a replay takes beside its policy: the usual budget and targets, which no run looks at
@@ -35,17 +36,22 @@ IsJobFor (Replay binary policy pair) contents job = IsJobOfBytes (program_of con
 IsJobFor (Trace binary entry bound) contents job = IsByteJobAt (program_of contents) entry bound job
 IsJobFor _ contents job = ⊥
 
+-- what the outcome of a command's check is: that of one secret byte is exact
+abbrev pub IsOutcomeFor : Command → Job → Outcome → Type 0
+IsOutcomeFor (Byte binary entry bound) job outcome = IsByteCheckOf job outcome
+IsOutcomeFor _ job outcome = IsCheckOf job outcome
+
 -- the outcome of a check of the command's job
 pub record IsCheck (command : Command) (contents : List (List ℕ)) (outcome : Outcome) : Type 0 where
   pub job : Job
   pub job_is : IsJobFor command contents job
-  pub outcome_is : IsOutcomeOf job outcome
+  pub outcome_is : IsOutcomeFor command job outcome
 
 -- the report of the command's job and of the outcome of its check
 pub record IsReport (command : Command) (contents : List (List ℕ)) (outcome : Outcome) (text : List ℕ) : Type 0 where
   pub job : Job
   pub job_is : IsJobFor command contents job
-  pub outcome_is : IsOutcomeOf job outcome
+  pub outcome_is : IsOutcomeFor command job outcome
   pub text_is : text ≡ report_of job outcome
 
 -- the trace of the command's job

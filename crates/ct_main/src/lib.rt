@@ -16,7 +16,7 @@ mod task;
 pub use errors::tell;
 pub use finished::Finished;
 pub use laws::leak_sites_law;
-pub use process::{finish, run};
+pub use process::{finish, run, run_with};
 pub use program::{ASKED_BEFORE, ctrel};
 pub use refusal::Refusal;
 

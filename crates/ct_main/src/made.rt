@@ -1,18 +1,20 @@
 //! What came of a task, before anything is written.
 
-ghost use Rattle.std.specs.Prelude.{◌≡◌, [], None, IfOk};
+ghost use Rattle.std.specs.Prelude.{◌≡◌, ◌≤◌, [], length, None, Some, IfOk};
 ghost use Rattle.elf_load.specs.Layout.{FitsMemory, segment_extents};
 ghost use Rattle.rv_image.specs.Loading.{cells_of};
 ghost use Rattle.ct_pairs.specs.Pair.{IsPair};
 ghost use Rattle.ct_pairs.specs.Covered.{AreTrueSites};
 ghost use Rattle.ct_listing.specs.List.{list_of};
 ghost use Rattle.ct_report.specs.Report.{report_of};
-ghost use Rattle.ct_main.specs.Outcomes.{IsOutcomeOf};
+ghost use Rattle.rel_step.specs.declared.simplifying.TheConstants.{MOST_PASSES};
+ghost use Rattle.ct_main.specs.Outcomes.{IsByteCheckOf};
 ghost use Rattle.ct_main.specs.Status.{replay_status as replay_code};
-ghost use Rattle.ct_main.specs.Tasks.{HasOneSecret, CanDo, IsDone};
+ghost use Rattle.ct_main.specs.Tasks.{HasOneSecret, CanDo, IsToldOf, IsDone};
 
 use crate::finished::finding_status;
 use crate::task::Task;
+use bv_passes::Kit;
 use ct_listing::{list_text, trace_text};
 use ct_pairs::{Job, Pair, byte_check};
 use ct_report::{Outcome, report_text, sites_law};
@@ -21,6 +23,7 @@ use elf_load::Elf;
 use pair_replay::{Replayed, replay, replay_text};
 use rv_image::Image;
 use std::alloc::{AllocError, Global};
+use work_crew::check_alone;
 
 /// What came of a task, before anything is written.
 #[derive(Debug, Drop)]
@@ -34,9 +37,9 @@ pub(crate) struct Made {
 }
 
 /// Checks a job of one secret byte by running all its pairs.
-fn check(alloc: Global, job: &Job) -> Result<Outcome, AllocError>
+fn check_pairs(alloc: Global, job: &Job) -> Result<Outcome, AllocError>
     requires { HasOneSecret job.now }
-    ensures { IfOk result (IsOutcomeOf job.now) }
+    ensures { IfOk result (IsByteCheckOf job.now) }
 {
     let table = byte_check(alloc, job)?;
     Ok(Outcome::of_table(alloc, table))
@@ -83,20 +86,38 @@ impl Made {
         }
     }
 
-    /// Checks a job and makes the report.
-    fn by_check(alloc: Global, job: &Job) -> Made
+    /// The outcome of a check of a job, and its report.
+    fn of_outcome(alloc: Global, job: &Job, outcome: Outcome) -> Made
+        requires { AreTrueSites job.now outcome.sites }
+        ensures outcome { result.outcome ≡ Some outcome }
+        ensures told { IsToldOf job.now result }
+    {
+        let text = report(alloc, job, &outcome);
+        Made {
+            status: finding_status(outcome.verdict()),
+            outcome: Some(outcome),
+            text,
+        }
+    }
+
+    /// Checks a job of one secret byte and makes the report.
+    fn by_pairs(alloc: Global, job: &Job) -> Made
         requires { HasOneSecret job.now }
+        ensures { IsDone (Task.Byte job.now) result }
+    {
+        match check_pairs(alloc, job) {
+            Ok(outcome) => Made::of_outcome(alloc, job, outcome),
+            Err(error) => Made::without_outcome(0, Err(error)),
+        }
+    }
+
+    /// Checks a job with the passes of a kit and makes the report.
+    fn by_check(alloc: Global, job: &Job, kit: &mut Kit) -> Made
+        requires { length kit.old.items ≤ MOST_PASSES }
         ensures { IsDone (Task.Check job.now) result }
     {
-        match check(alloc, job) {
-            Ok(outcome) => {
-                let text = report(alloc, job, &outcome);
-                Made {
-                    status: finding_status(outcome.verdict()),
-                    outcome: Some(outcome),
-                    text,
-                }
-            }
+        match check_alone(alloc, job, kit) {
+            Ok(outcome) => Made::of_outcome(alloc, job, outcome),
             Err(error) => Made::without_outcome(0, Err(error)),
         }
     }
@@ -116,12 +137,14 @@ impl Made {
     }
 
     /// Does a task and makes its whole text.
-    pub(crate) fn by_task(alloc: Global, task: Task) -> Made
-        requires { CanDo task }
+    pub(crate) fn by_task(alloc: Global, task: Task, kit: &mut Kit) -> Made
+        requires can { CanDo task }
+        requires few { length kit.old.items ≤ MOST_PASSES }
         ensures { IsDone task result }
     {
         match task {
-            Task::Check(job) => Made::by_check(alloc, &job),
+            Task::Byte(job) => Made::by_pairs(alloc, &job),
+            Task::Check(job) => Made::by_check(alloc, &job, kit),
             Task::Replay(job, pair) => Made::by_replay(alloc, &job, &pair),
             Task::Trace(job) => Made::without_outcome(0, trace_text(alloc, &job)),
             Task::List(elf) => Made::without_outcome(0, list(alloc, elf)),

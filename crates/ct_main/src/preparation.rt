@@ -9,7 +9,7 @@ ghost use Rattle.ct_policy.specs.ByteJob.{IsByteJobAt};
 ghost use Rattle.ct_policy.specs.Job.{IsJobOfBytes};
 ghost use Rattle.ct_policy.specs.Limits.{AreOptions};
 ghost use Rattle.ct_main.specs.Outside.{read_of};
-ghost use Rattle.ct_main.specs.Phases.{executable_rules, routine_rules, policy_rules, one_secret_rules, pair_rules, program_of, policy_bytes, is_one_secret as is_one_secret_list};
+ghost use Rattle.ct_main.specs.Phases.{executable_rules, routine_rules, policy_rules, pair_rules, program_of, policy_bytes};
 ghost use Rattle.ct_main.specs.Tasks.{Gives, GivesFirst, HasOneSecret, CanDo, IsTaskOf, Prepares};
 
 use crate::files::{load_file, read_file};
@@ -18,22 +18,12 @@ use crate::refusal::Refusal;
 use crate::task::Task;
 use ct_lines::Command;
 use ct_outside::Shelf;
-use ct_pairs::{Entry, InputByte, Job, USUAL_BUDGET, USUAL_TARGETS};
+use ct_pairs::{Entry, Job, USUAL_BUDGET, USUAL_TARGETS};
 use ct_policy::{Options, byte_job, read};
 use ct_rows::Text;
 use elf_load::Elf;
 use pair_replay::{bad_line_law, read_pair};
 use std::alloc::Global;
-
-/// Whether there is one input byte, a secret one.
-fn is_one_secret(inputs: &[InputByte]) -> bool
-    ensures { result ≡ is_one_secret_list inputs.now }
-{
-    match inputs {
-        [input] => input.secret,
-        _ => false,
-    }
-}
 
 /// The job of a routine of one secret byte.
 fn routine_job<F: Shelf>(
@@ -53,31 +43,6 @@ fn routine_job<F: Shelf>(
 {
     let elf = load_file(alloc, read_file(alloc, shelf, binary)?)?;
     Ok(byte_job(alloc, &elf, entry, bound)?)
-}
-
-/// The job of a policy of one secret byte.
-fn one_secret_job<F: Shelf>(
-    alloc: Global,
-    shelf: &mut F,
-    binary: &Text,
-    policy: &Text,
-    options: &Options,
-) -> Result<Job, Refusal>
-    requires room { length (F.asked shelf.old) ≤ ASKED_BEFORE }
-    requires options { AreOptions options.now }
-    ensures job { Gives
-        (read_of F.files F.asked F.given F.faults shelf.old shelf.new)
-        ((binary.now, executable_rules) ∷ (policy.now, one_secret_rules) ∷ [])
-        (λ contents job. IsJobOfBytes (program_of contents) options.now (policy_bytes contents) job) result }
-    ensures one_secret { IfOk result HasOneSecret }
-{
-    let elf = load_file(alloc, read_file(alloc, shelf, binary)?)?;
-    let bytes = read_file(alloc, shelf, policy)?;
-    let job = read(alloc, bytes.as_slice(), &elf, options)?;
-    if !is_one_secret(job.inputs.as_slice()) {
-        return Err(Refusal::Later);
-    }
-    Ok(job)
 }
 
 /// The job of a policy.
@@ -154,7 +119,7 @@ pub fn prepare<F: Shelf>(alloc: Global, shelf: &mut F, command: &Command) -> Res
             binary,
             entry,
             bound,
-        } => Ok(Task::Check(routine_job(alloc, shelf, binary, entry, *bound)?)),
+        } => Ok(Task::Byte(routine_job(alloc, shelf, binary, entry, *bound)?)),
         Command::Check {
             binary,
             policy,
@@ -168,7 +133,7 @@ pub fn prepare<F: Shelf>(alloc: Global, shelf: &mut F, command: &Command) -> Res
                 budget: *budget,
                 targets: *targets,
             };
-            let job = one_secret_job(alloc, shelf, binary, policy, &options);
+            let job = policy_job(alloc, shelf, binary, policy, &options);
             Ok(Task::Check(job?))
         }
         Command::Replay {

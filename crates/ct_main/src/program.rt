@@ -1,8 +1,9 @@
 //! The call that the program makes.
 
-ghost use Rattle.std.specs.Prelude.{◌≡◌, ◌≤◌, length, map, IfOk};
+ghost use Rattle.std.specs.Prelude.{◌≤◌, length, map, slice_get, IfOk, IsSomeAnd};
 ghost use Rattle.std.specs.String.{string_bytes};
 ghost use Rattle.ct_lines.specs.Commands.{command_of};
+ghost use Rattle.rel_step.specs.declared.simplifying.TheConstants.{MOST_PASSES};
 ghost use Rattle.ct_main.specs.Outside.{read_of, wrote_of};
 ghost use Rattle.ct_main.specs.Status.{HasStatus};
 ghost use Rattle.ct_main.specs.Answer.{IsAnswer};
@@ -14,6 +15,7 @@ use crate::output::write_made;
 use crate::preparation::prepare;
 use crate::refusal::Refusal;
 use crate::task::Task;
+use bv_passes::Kit;
 use ct_lines::read_words;
 use ct_outside::{Shelf, Sink};
 use std::alloc::Global;
@@ -34,8 +36,9 @@ fn find_task<F: Shelf>(alloc: Global, words: &[String], shelf: &mut F) -> Result
 }
 
 /// Does a task and writes its whole text.
-fn deliver<S: Sink>(alloc: Global, task: Task, out: &mut S) -> Finished
-    requires { CanDo task }
+fn deliver<S: Sink>(alloc: Global, task: Task, kit: &mut Kit, out: &mut S) -> Finished
+    requires can { CanDo task }
+    requires few { length kit.old.items ≤ MOST_PASSES }
     ensures { IsDelivered task
         (wrote_of S.written S.sure S.faults out.old out.new) result.status result.outcome result.refusal }
 {
@@ -43,7 +46,7 @@ fn deliver<S: Sink>(alloc: Global, task: Task, out: &mut S) -> Finished
         status,
         outcome,
         text,
-    } = Made::by_task(alloc, task);
+    } = Made::by_task(alloc, task, kit);
     let refusal = write_made(text, out).err();
     Finished::ended(status, outcome, refusal)
 }
@@ -52,15 +55,18 @@ fn deliver<S: Sink>(alloc: Global, task: Task, out: &mut S) -> Finished
 ///
 /// It reads the files that the words name, does what they ask, makes the whole text and then
 /// writes it; what it answers is the status to end with, the outcome of a check, and the refusal to
-/// print. Its time and its memory are those of `byte_check`, `replay`, `trace_text` or `list_text`,
-/// beside the files, the image and the text.
+/// print. A check simplifies by the passes of the first kit. Its time and its memory are those of
+/// `byte_check`, `check_alone`, `replay`, `trace_text` or `list_text`, beside the files, the image
+/// and the text.
 pub fn ctrel<F: Shelf, S: Sink>(
     alloc: Global,
     words: &[String],
     shelf: &mut F,
     out: &mut S,
+    kits: Vec<Kit>,
 ) -> Finished
-    requires { length (F.asked shelf.old) ≤ ASKED_BEFORE }
+    requires asked { length (F.asked shelf.old) ≤ ASKED_BEFORE }
+    requires kit { IsSomeAnd (slice_get kits.items 0) (λ kit. length kit.items ≤ MOST_PASSES) }
     ensures answer { IsAnswer
         (command_of (map string_bytes words.now))
         (read_of F.files F.asked F.given F.faults shelf.old shelf.new)
@@ -68,8 +74,9 @@ pub fn ctrel<F: Shelf, S: Sink>(
         result.status result.outcome result.refusal }
     ensures status { HasStatus result.outcome result.refusal result.status }
 {
+    let mut kits = kits;
     match find_task(alloc, words, shelf) {
-        Ok(task) => deliver(alloc, task, out),
+        Ok(task) => deliver(alloc, task, &mut kits[0], out),
         Err(refusal) => Finished::refused(refusal),
     }
 }

@@ -31,7 +31,7 @@ pub enum Refusal {
     /// This line of the pair's text, counted from 1, is the first that isn't as it is to be.
     #[error("pair line {0}")]
     PairText(u32),
-    /// The command, or a check of other inputs than one secret byte, isn't built yet.
+    /// The command isn't built yet.
     #[error("later")]
     Later,
     /// There was no memory.

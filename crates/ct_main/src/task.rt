@@ -6,6 +6,8 @@ use elf_load::Elf;
 /// What remains to be done once a command's files have passed.
 #[derive(Debug, Drop)]
 pub(crate) enum Task {
+    /// Check the job of one secret byte by running all its pairs, and report what was found.
+    Byte(Job),
     /// Check the job and report what was found.
     Check(Job),
     /// Run both starts of the pair and show how the runs compare.

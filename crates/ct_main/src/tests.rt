@@ -156,7 +156,8 @@ fn pairs_are_replayed_or_refused(rt: HostRuntime) -> Result<(), Fail> {
     ] {
         let mut shelf = shelf(alloc, pair)?;
         let mut out = errors(alloc, NEVER)?;
-        let finished = ctrel(alloc, words.as_slice(), &mut shelf, &mut out);
+        let kits = vec![in alloc; Vec::new(alloc)]?;
+        let finished = ctrel(alloc, words.as_slice(), &mut shelf, &mut out, kits);
         assert_eq!(rt; finished.status, status, "{pair:?}");
         assert_eq!(rt; out.written(), text.as_bytes(), "{pair:?}");
         let mut told = errors(alloc, NEVER)?;

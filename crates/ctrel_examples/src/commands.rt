@@ -2,7 +2,7 @@
 //! `examples/make.py`; `cut.elf` is `return.elf` without its last byte.
 
 /// Commands whose text is written.
-pub const WRITTEN: [&str; 25] = [
+pub const WRITTEN: [&str; 29] = [
     "byte decode_table.elf 0x10000 100",
     "byte decode_branch.elf 0x10000 100",
     "byte decode_constant.elf 0x10000 100",
@@ -25,13 +25,17 @@ pub const WRITTEN: [&str; 25] = [
     "check secret_branch.elf one_secret.toml",
     "check secret_branch.elf one_secret.toml --bound 10",
     "check second_entry.elf one_secret.toml",
+    "check return.elf no_input.toml",
+    "check return.elf two_secrets.toml",
+    "check load.elf one_public.toml",
+    "check comparison.elf buffers.toml",
     "replay secret_branch.elf one_secret.toml different.pair",
     "replay secret_branch.elf one_secret.toml same.pair",
     "check --workers 2 decode_table.elf --bound 3 decode_table.toml --budget 0 --targets 1",
 ];
 
 /// Commands that are refused.
-pub const REFUSED: [&str; 26] = [
+pub const REFUSED: [&str; 22] = [
     "byte cut.elf 0x10054 10",
     "list cut.elf",
     "check cut.elf not_toml.toml",
@@ -47,10 +51,6 @@ pub const REFUSED: [&str; 26] = [
     "check comparison.elf nobody.toml",
     "check comparison.elf many_inputs.toml",
     "check comparison.elf shared_byte.toml",
-    "check return.elf no_input.toml",
-    "check return.elf two_secrets.toml",
-    "check load.elf one_public.toml",
-    "check comparison.elf buffers.toml",
     "replay secret_branch.elf one_secret.toml short.pair",
     "replay a b c",
     "gen 1 1",

@@ -35,7 +35,8 @@ fn run(rt: &HostRuntime, command: &str, shelf_call: u64, sink_call: u64) -> io::
     let words = words_of(alloc, command)?;
     let mut shelf = shelf(rt, shelf_call)?;
     let mut out = MemorySink::new(alloc, vec![in alloc; sink_call]?, 10, 1000)?;
-    let finished = ctrel(alloc, words.as_slice(), &mut shelf, &mut out);
+    let kits = vec![in alloc; Vec::new(alloc)]?;
+    let finished = ctrel(alloc, words.as_slice(), &mut shelf, &mut out, kits);
     let _ = write_all(&mut RealSink::new(rt), out.written());
     println!(rt)?;
     show_end(rt, &finished)

@@ -25,16 +25,18 @@ fn show_end(rt: &HostRuntime, finished: &Finished) -> io::Result<()> {
     println!(rt; "status {}", finished.status)
 }
 
-/// Runs a command over the real files and the real output.
+/// Runs a command over the real files and the real output, without passes.
 fn run(rt: &HostRuntime, command: &str) -> io::Result<()> {
     println!(rt; "$ ctrel {command}")?;
     let words = words_of(rt.alloc(), command)?;
     let mut shelf = RealShelf::new(rt.alloc(), rt)?;
+    let kits = vec![in rt.alloc(); Vec::new(rt.alloc())]?;
     let finished = ctrel(
         rt.alloc(),
         words.as_slice(),
         &mut shelf,
         &mut RealSink::new(rt),
+        kits,
     );
     show_end(rt, &finished)
 }

@@ -1,5 +1,5 @@
 use Rattle.ct_main.proofs.Exact.{outcome_is}
-use Rattle.ct_main.proofs.made.check.Goals as goal
+use Rattle.ct_main.proofs.made.check_pairs.Goals as goal
 
 pub returns : goal.returns
 returns c =
