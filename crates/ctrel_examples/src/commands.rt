@@ -2,7 +2,7 @@
 //! `examples/make.py`; `cut.elf` is `return.elf` without its last byte.
 
 /// Commands whose text is written.
-pub const WRITTEN: [&str; 29] = [
+pub const WRITTEN: [&str; 40] = [
     "byte decode_table.elf 0x10000 100",
     "byte decode_branch.elf 0x10000 100",
     "byte decode_constant.elf 0x10000 100",
@@ -29,6 +29,17 @@ pub const WRITTEN: [&str; 29] = [
     "check return.elf two_secrets.toml",
     "check load.elf one_public.toml",
     "check comparison.elf buffers.toml",
+    "check comparison.elf buffers.toml --budget 0",
+    "check comparison.elf no_buffers.toml",
+    "check early_comparison.elf buffers.toml",
+    "check two_lookups.elf two_lookups.toml",
+    "check two_lookups.elf short_table.toml",
+    "check loop.elf one_secret.toml --bound 20",
+    "check stored_index.elf stored_index.toml",
+    "check needless_branch.elf one_secret.toml",
+    "check needless_branch.elf one_secret.toml --budget 0",
+    "check computed_jump.elf one_public.toml",
+    "check computed_jump.elf one_public.toml --targets 17",
     "replay secret_branch.elf one_secret.toml different.pair",
     "replay secret_branch.elf one_secret.toml same.pair",
     "check --workers 2 decode_table.elf --bound 3 decode_table.toml --budget 0 --targets 1",
