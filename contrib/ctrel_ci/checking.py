@@ -6,6 +6,7 @@ from .checklist import Check
 from .lines import FormError
 from .programs import ProgramError, Programs
 from .report import VERDICTS, Report, read_report
+from .texts import numbered
 from .trace import Trace, read_trace
 
 SMALLER_BOUNDS = (100, 1_000, 10_000)
@@ -45,7 +46,7 @@ class Outcome:
         how = UNFINISHED.get(self.ending())
         if self.verdict() != "secure" or how is None:
             return None
-        return f"secure covers little: the run with all input bytes 0 {how}, after {self.steps()} steps"
+        return f"secure covers little: the run with all input bytes 0 {how}, after {numbered(self.steps(), 'step')}"
 
     def steps(self) -> int:
         return min(self.trace.steps, self.report.bound)

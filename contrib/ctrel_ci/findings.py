@@ -7,7 +7,7 @@ from .checking import Outcome
 from .report import Place
 from .source import Origin, Sources
 from .table import site_text
-from .texts import printable
+from .texts import numbered, printable
 
 RULES = {
     "branch": "A secret decides whether a branch is taken",
@@ -49,7 +49,7 @@ def shown_path(path: str) -> str:
 
 
 def place_text(place: Place) -> str:
-    return f"{OPEN[place.cause]}: 0x{place.address:08x}, after {place.after} steps"
+    return f"{OPEN[place.cause]}: 0x{place.address:08x}, after {numbered(place.after, 'step')}"
 
 
 def findings_of(outcome: Outcome, sources: Sources) -> list[Finding]:
