@@ -1,0 +1,126 @@
+#!/usr/bin/env python3
+"""Runs the commands that the documents show, and compares what they write with what is shown.
+
+In a document a block with the mark 'console' has commands, each after '$ ', with what
+it writes below it. A block whose mark ends with a file's name is written to that file
+first. All blocks of a document are run in one new folder that has the programs CTREL
+and CTRACE as ctrel and ctrace, and copies of examples/ and contrib/. A document is
+passed over from the first command on whose program isn't there.
+"""
+import dataclasses
+import os
+import pathlib
+import re
+import shutil
+import subprocess
+import sys
+import tempfile
+
+TOP = pathlib.Path(__file__).resolve().parent.parent
+DOCUMENTS = ("README.md",)
+OUTPUTS = "crates/ctrel_examples"
+BLOCK = re.compile(r"^```([^\n]+)\n(.*?)^```$", re.M | re.S)
+SECONDS = re.compile(r"[0-9]+\.[0-9]$", re.M)
+MARK = "\0"
+
+
+@dataclasses.dataclass
+class Command:
+    """A command, and what is shown below it."""
+
+    line: str
+    shown: str
+
+
+def commands_of(text: str) -> list[Command]:
+    """The commands of a block. A line that ends with a backslash goes on in the next one."""
+    commands = []
+    goes_on = False
+    for line in text.splitlines(keepends=True):
+        if goes_on:
+            commands[-1].line += line
+        elif line.startswith("$ "):
+            commands.append(Command(line[2:], ""))
+        else:
+            commands[-1].shown += line
+        goes_on = line.endswith("\\\n") and (goes_on or line.startswith("$ "))
+    return commands
+
+
+def prepare(folder: pathlib.Path) -> None:
+    for name in ("examples", "contrib"):
+        shutil.copytree(TOP / name, folder / name)
+    for name in ("ctrel", "ctrace"):
+        (folder / name).symlink_to(os.environ[name.upper()])
+
+
+def is_there(command: Command) -> bool:
+    """Whether the command's program is there."""
+    program = command.line.split()[0]
+    return "/" in program or shutil.which(program) is not None
+
+
+def written(commands: list[Command], folder: pathlib.Path) -> list[str]:
+    """What each command writes, on the output and on standard error, in one shell."""
+    script = "".join(f"status=$?; printf '\\000'; (exit $status)\n{command.line}" for command in commands)
+    ran = subprocess.run(
+        ["sh", "-c", script], cwd=folder, stdin=subprocess.DEVNULL, stdout=subprocess.PIPE, stderr=subprocess.STDOUT
+    )
+    return ran.stdout.decode("utf-8", "replace").split(MARK)[1:]
+
+
+def without_seconds(text: str) -> str:
+    return SECONDS.sub("-", text)
+
+
+def differing(where: str, commands: list[Command], texts: list[str]) -> int:
+    """How many commands write something else than is shown; each is named."""
+    wrong = [
+        (command, text)
+        for command, text in zip(commands, texts)
+        if without_seconds(command.shown) != without_seconds(text)
+    ]
+    for command, text in wrong:
+        print(f"{where}: $ {command.line}--- writes\n{text}--- and this is shown\n{command.shown}")
+    return len(wrong)
+
+
+def check_document(name: str) -> tuple[int, int]:
+    """How many commands a document has, and how many of them write something else."""
+    commands = []
+    with tempfile.TemporaryDirectory() as place:
+        folder = pathlib.Path(place)
+        prepare(folder)
+        for mark, text in BLOCK.findall((TOP / name).read_text(encoding="utf-8")):
+            if mark == "console":
+                commands += commands_of(text)
+            elif " " in mark:
+                commands.append(Command(f"cat >{mark.split()[1]} <<'END'\n{text}END\n", ""))
+        for at, command in enumerate(commands):
+            if not is_there(command):
+                print(f"{name}: passed over from here on: {command.line}", end="")
+                commands = commands[:at]
+                break
+        return len(commands), differing(name, commands, written(commands, folder))
+
+
+def check_outputs() -> tuple[int, int]:
+    """The same for what the gate compares of the examples, where it doesn't depend on passes."""
+    text = (TOP / OUTPUTS / "stdout").read_text(encoding="utf-8")
+    parts = [part.partition("\n") for part in re.split(r"^\$ ctrel ", text, flags=re.M)[1:]]
+    commands = [
+        Command(f"{os.environ['CTREL']} {line}; echo status $?\n", shown)
+        for line, _, shown in parts
+        if "#" not in line and not line.startswith("check")
+    ]
+    return len(commands), differing(OUTPUTS, commands, written(commands, TOP / OUTPUTS / "data"))
+
+
+def main() -> int:
+    results = [check_document(name) for name in DOCUMENTS] + [check_outputs()]
+    total, wrong = (sum(column) for column in zip(*results))
+    print(f"documents: {total} commands run, {wrong} write something else than is shown")
+    return 1 if wrong else 0
+
+
+sys.exit(main())
