@@ -17,10 +17,10 @@ import sys
 import tempfile
 
 TOP = pathlib.Path(__file__).resolve().parent.parent
-DOCUMENTS = ("README.md",)
+DOCUMENTS = ("README.md", "docs/CI.md")
 OUTPUTS = "crates/ctrel_examples"
 BLOCK = re.compile(r"^```([^\n]+)\n(.*?)^```$", re.M | re.S)
-SECONDS = re.compile(r"[0-9]+\.[0-9]$", re.M)
+SECONDS = re.compile(r" *[0-9]+\.[0-9]$", re.M)
 MARK = "\0"
 
 
@@ -56,7 +56,7 @@ def prepare(folder: pathlib.Path) -> None:
 
 def is_there(command: Command) -> bool:
     """Whether the command's program is there."""
-    program = command.line.split()[0]
+    program = command.line.split()[0].lstrip("(")
     return "/" in program or shutil.which(program) is not None
 
 

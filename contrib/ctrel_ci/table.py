@@ -15,13 +15,18 @@ def bound_text(outcome: Outcome) -> str:
     return f"{outcome.report.bound}{below}"
 
 
+def ending_text(outcome: Outcome) -> str:
+    ending = outcome.ending()
+    return ending if ending == "-" else f"{ending} after {outcome.steps()}"
+
+
 def row_of(outcome: Outcome) -> tuple[str, ...]:
     report = outcome.report
     verdict = "error" if outcome.error else outcome.verdict()
     counts = (str(len(report.sites)), str(len(report.places))) if report else ("-", "-")
     name = printable(outcome.check.name)
     seconds = f"{outcome.seconds:.1f}"
-    return (name, verdict, outcome.check.expected, *counts, bound_text(outcome), outcome.ending(), seconds)
+    return (name, verdict, outcome.check.expected, *counts, bound_text(outcome), ending_text(outcome), seconds)
 
 
 def aligned(rows: list[tuple[str, ...]]) -> list[str]:
