@@ -156,22 +156,28 @@ class Warnings(Folder):
 
 
 class TimeLimits(Folder):
-    SLEEPS = 'case "$*" in *"--bound 100") ;; *) sleep 60 ;; esac'
+    def setUp(self):
+        super().setUp()
+        (self.folder / "a.toml").write_text("format = 1\nbound = 5000\n")
+
+    def stand_in_that_sleeps(self, out: str, status: int) -> None:
+        """A program that answers at once for --bound, and else not within a minute."""
+        below = f'[ "$4" = --bound ] && sed "s/^bound .*/bound $5/" {self.folder}/ctrel.out && exit {status}'
+        self.stand_in("ctrel", out, status, f"{below}\nsleep 60")
 
     def test_a_smaller_bound_answers(self):
-        (self.folder / "a.toml").write_text("format = 1\nbound = 5000\n")
-        self.stand_in("ctrel", INSECURE.replace("1000", "100", 1), 1, self.SLEEPS)
+        self.stand_in_that_sleeps(INSECURE, 1)
         began = time.monotonic()
         status, text = self.run_list(self.row("insecure"), words=("--seconds", "1"))
         self.assertEqual(status, 0, text)
-        self.assertIn("100 of 5000", text)
+        self.assertIn("10 of 5000", text)
         self.assertLess(time.monotonic() - began, 30)
 
     def test_secure_below_the_bound_is_not_enough(self):
-        (self.folder / "a.toml").write_text("format = 1\nbound = 5000\n")
-        self.stand_in("ctrel", SECURE.replace("1000", "100"), 0, self.SLEEPS)
+        self.stand_in_that_sleeps(SECURE, 0)
         status, text = self.run_list(self.row("secure"), words=("--seconds", "1"))
         self.assertEqual(status, 1, text)
+        self.assertIn("3000 of 5000", text)
         self.assertIn("didn't end in its time", text)
 
     def test_nothing_in_time(self):
@@ -236,6 +242,12 @@ class Written(Folder):
         for line in lines:
             self.assertRegex(line, r"^::error file=[^,:]+,title=[^,:]+::.*100%25,")
         self.assertNotIn("\x1b", self.text)
+
+    def test_no_name_is_a_command_of_the_build_server(self):
+        status, text = self.run_list(self.row("insecure", "::error::a"), self.row("insecure", "##[error]b"))
+        self.assertEqual(status, 0, text)
+        for line in text.splitlines():
+            self.assertFalse(line.lstrip().startswith("::") or "##[" in line, line)
 
     def test_the_page_is_escaped_and_needs_no_other_file(self):
         page = Page(self.files["html"])

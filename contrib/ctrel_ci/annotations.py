@@ -1,6 +1,6 @@
 """Findings as annotations: lines that a GitHub workflow shows beside the source."""
 from .findings import RULES, Finding
-from .texts import printable
+from .texts import harmless, printable
 
 COMMANDS = {"error": "error", "warning": "warning", "note": "notice"}
 
@@ -14,7 +14,7 @@ def annotation_of(finding: Finding) -> str:
     line = {"line": str(finding.origin.line)} if finding.origin.line else {}
     keys = {"file": printable(finding.path()), **line, "title": f"ctrel: {RULES[finding.rule]}"}
     properties = ",".join(f"{key}={escaped(value, ':,')}" for key, value in keys.items())
-    return f"::{COMMANDS[finding.level]} {properties}::{escaped(finding.message)}\n"
+    return f"::{COMMANDS[finding.level]} {properties}::{escaped(harmless(finding.message))}\n"
 
 
 def annotations_text(findings: list[Finding]) -> str:

@@ -9,7 +9,7 @@ from .report import VERDICTS, Report, read_report
 from .texts import numbered
 from .trace import Trace, read_trace
 
-SMALLER_BOUNDS = (100, 1_000, 10_000)
+SMALLER_BOUNDS = (10, 30, 100, 300, 1_000, 3_000, 10_000, 30_000)
 UNFINISHED = {
     "fault": "ended by a fault",
     "illegal": "ended at an illegal word",
@@ -71,6 +71,8 @@ def ask(programs: Programs, check: Check) -> Report | None:
     report = read_report(ran.out)
     if VERDICTS.index(report.verdict) != ran.status:
         raise FormError(f"report: {report.verdict} with status {ran.status}")
+    if report.bound != (check.bound() or report.bound):
+        raise FormError(f"report: the bound {report.bound} in place of {check.bound()}")
     return report
 
 

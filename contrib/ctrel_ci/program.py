@@ -18,7 +18,7 @@ from .programs import ProgramError, Programs
 from .sarif import sarif_text
 from .source import Sources, find_tool, read_sources
 from .table import table_text
-from .texts import printable
+from .texts import harmless, printable
 
 TOP = pathlib.Path(__file__).resolve().parent.parent.parent
 AS_EXPECTED, NOT_AS_EXPECTED, ERROR = 0, 1, 2
@@ -126,9 +126,9 @@ def main(words: list[str]) -> int:
         outcomes = do_all(programs, checks, arguments.jobs)
         write_all(arguments, programs, outcomes)
     except ListError as error:
-        print(printable(f"ctrel-ci: {arguments.list}: {error}"), file=sys.stderr)
+        print(harmless(printable(f"ctrel-ci: {arguments.list}: {error}")), file=sys.stderr)
         return ERROR
     except (ProgramError, FormError, OSError) as error:
-        print(printable(f"ctrel-ci: {error}"), file=sys.stderr)
+        print(harmless(printable(f"ctrel-ci: {error}")), file=sys.stderr)
         return ERROR
     return status_of(outcomes)

@@ -2,7 +2,7 @@
 from .checking import Outcome
 from .report import Site
 from .source import Origin, Sources
-from .texts import numbered, printable
+from .texts import harmless, numbered, printable
 
 HEAD = ("check", "verdict", "expected", "sites", "places", "bound", "first run", "seconds")
 RIGHT = (3, 4, 7)
@@ -59,7 +59,7 @@ def remarks_of(outcome: Outcome, sources: Sources) -> list[str]:
     if outcome.warning():
         said.append(f"warning: {outcome.warning()}")
     if outcome.complaint():
-        said.append(f"not as expected: {outcome.complaint()}")
+        said.append(f"{'error' if outcome.error else 'not as expected'}: {outcome.complaint()}")
     return [printable(f"{outcome.check.name}: {line}") for line in said]
 
 
@@ -71,4 +71,5 @@ def summary(outcomes: list[Outcome]) -> str:
 def table_text(outcomes: list[Outcome], sources: list[Sources]) -> str:
     lines = aligned([HEAD, *map(row_of, outcomes)])
     remarks = [line for pair in zip(outcomes, sources) for line in remarks_of(*pair)]
-    return "\n".join([*lines, *([""] if remarks else []), *remarks, "", summary(outcomes)]) + "\n"
+    whole = [*lines, *([""] if remarks else []), *remarks, "", summary(outcomes)]
+    return "".join(f"{harmless(line)}\n" for line in whole)
