@@ -38,7 +38,8 @@ def two_by_two(text: str) -> list[str]:
 
 def row(cells: list[str], kind: str = "", tag: str = "td") -> str:
     inner = "".join(f"<{tag}>{cell}</{tag}>" for cell in cells)
-    return f'<tr class="{kind}">{inner}</tr>\n'
+    mark = f' class="{kind}"' if kind else ""
+    return f"<tr{mark}>{inner}</tr>\n"
 
 
 def site_rows(site: Site, origin: Origin) -> str:
