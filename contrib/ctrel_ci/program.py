@@ -14,7 +14,7 @@ from .junit import junit_text
 from .lines import FormError
 from .listing import addresses_of, listing_of, parts_of
 from .page import page_text
-from .programs import ProgramError, Programs
+from .programs import ProgramError, Programs, end_all
 from .sarif import sarif_text
 from .source import Sources, find_tool, read_sources
 from .table import table_text
@@ -79,7 +79,12 @@ def do_all(programs: Programs, checks: list[Check], jobs: int) -> list[Outcome]:
         return outcome
 
     with ThreadPoolExecutor(jobs) as pool:
-        return list(pool.map(one, checks))
+        try:
+            return list(pool.map(one, checks))
+        except KeyboardInterrupt:
+            pool.shutdown(wait=False, cancel_futures=True)
+            end_all()
+            raise
 
 
 def write_page(path: str, programs: Programs, outcomes: list[Outcome], sources: list[Sources]) -> None:
@@ -127,6 +132,9 @@ def main(words: list[str]) -> int:
         write_all(arguments, programs, outcomes)
     except ListError as error:
         print(harmless(printable(f"ctrel-ci: {arguments.list}: {error}")), file=sys.stderr)
+        return ERROR
+    except KeyboardInterrupt:
+        print("ctrel-ci: interrupted", file=sys.stderr)
         return ERROR
     except (ProgramError, FormError, OSError) as error:
         print(harmless(printable(f"ctrel-ci: {error}")), file=sys.stderr)

@@ -6,6 +6,7 @@ import time
 from dataclasses import dataclass
 
 REFUSED_WORDS = 64
+RUNNING: set[subprocess.Popen] = set()
 
 
 class ProgramError(Exception):
@@ -22,13 +23,18 @@ class Ran:
     seconds: float
 
 
-def end_all(process: subprocess.Popen) -> None:
+def end_group(process: subprocess.Popen) -> None:
     """Ends a program and all that it started, which is a group of processes of its own."""
     try:
         os.killpg(process.pid, signal.SIGKILL)
     except ProcessLookupError:
         pass
-    process.communicate()
+
+
+def end_all() -> None:
+    """Ends every program that runs."""
+    for process in list(RUNNING):
+        end_group(process)
 
 
 def run(words: list[str], seconds: float | None) -> Ran | None:
@@ -41,14 +47,18 @@ def run(words: list[str], seconds: float | None) -> Ran | None:
         )
     except OSError as error:
         raise ProgramError(f"{words[0]}: {error.strerror}") from None
+    RUNNING.add(process)
     try:
         out, err = process.communicate(timeout=seconds)
     except subprocess.TimeoutExpired:
-        end_all(process)
+        end_group(process)
+        process.communicate()
         return None
     except BaseException:
-        end_all(process)
+        end_group(process)
         raise
+    finally:
+        RUNNING.discard(process)
     return Ran(out, err.decode("utf-8", "backslashreplace"), process.returncode, time.monotonic() - began)
 
 
