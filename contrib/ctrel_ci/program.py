@@ -69,6 +69,14 @@ class Progress:
                 print(file=sys.stderr)
 
 
+def make_ready(programs: Programs) -> None:
+    """Waits until both programs answer, and passes on what their launchers say."""
+    if sys.stderr.isatty():
+        print("starting ctrel and ctrace", file=sys.stderr)
+    for line in programs.make_ready():
+        print(printable(line), file=sys.stderr)
+
+
 def do_all(programs: Programs, checks: list[Check], jobs: int) -> list[Outcome]:
     """The outcomes of all checks, in their order, so many at once."""
     progress = Progress(len(checks))
@@ -127,7 +135,7 @@ def main(words: list[str]) -> int:
     sys.stdout.reconfigure(errors="backslashreplace")
     try:
         checks = read_list(arguments.list)
-        programs.make_ready()
+        make_ready(programs)
         outcomes = do_all(programs, checks, arguments.jobs)
         write_all(arguments, programs, outcomes)
     except ListError as error:

@@ -70,12 +70,15 @@ class Programs:
     ctrace: str
     seconds: float
 
-    def make_ready(self) -> None:
-        """Calls both with no words, which they refuse. A launcher builds its program before that."""
+    def make_ready(self) -> list[str]:
+        """Calls both with no words, which they refuse. A launcher builds its program before that. Returns what it says."""
+        said = []
         for program in (self.ctrel, self.ctrace):
             ran = run([program], None)
             if ran.status != REFUSED_WORDS:
                 raise ProgramError(f"{program}: isn't as it is to be: status {ran.status}: {reason(ran)}")
+            said += [line for line in named_lines(ran) if not line.endswith(": words")]
+        return said
 
     def answer(self, words: list[str], statuses: tuple[int, ...], seconds: float | None) -> Ran | None:
         """What a call writes that ends by one of these statuses; nothing where it doesn't end in time."""
@@ -87,6 +90,9 @@ class Programs:
 
 def reason(ran: Ran) -> str:
     """Why there is no answer: the last line of standard error that a program's name begins, else the last."""
-    lines = [line.strip() for line in ran.err.splitlines() if line.strip()]
-    named = [line for line in lines if line.startswith(("ctrel: ", "ctrace: "))]
-    return (named or lines or ["nothing was said"])[-1]
+    return (named_lines(ran) or ran.err.strip().splitlines() or ["nothing was said"])[-1]
+
+
+def named_lines(ran: Ran) -> list[str]:
+    """The lines of standard error that a program's name begins: refusals, and what a launcher says."""
+    return [line for line in ran.err.splitlines() if line.startswith(("ctrel: ", "ctrace: "))]
