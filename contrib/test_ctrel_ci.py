@@ -5,6 +5,7 @@ import io
 import json
 import os
 import pathlib
+import re
 import stat
 import sys
 import tempfile
@@ -97,6 +98,11 @@ class Forms(unittest.TestCase):
         ):
             with self.subTest(wrong), self.assertRaises(FormError):
                 read_report(wrong.encode())
+
+    def test_reports_that_the_gate_compares_are_read(self):
+        text = (TOP / "crates/ctrel_examples/stdout").read_text()
+        reports = re.findall(r"^(ctrel report 1\n(?:.*\n)*?places .*\n(?:place .*\n)*)status", text, re.M)
+        self.assertEqual({read_report(report.encode()).verdict for report in reports}, {"secure", "insecure", "unknown"})
 
     def test_traces_are_read_strictly(self):
         trace = read_trace((STEP + "end fault\n").encode())
