@@ -57,7 +57,7 @@ class Outcome:
             return None
         if self.error:
             return self.error
-        late = "" if self.in_time else " below the bound, and the check of the bound didn't end in its time"
+        late = "" if self.in_time else ", below the bound: the check of the whole one didn't end in its time"
         found = self.verdict() if self.report else "no verdict"
         return f"{self.check.expected} was expected, and {found} was found{late}"
 
