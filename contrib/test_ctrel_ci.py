@@ -156,6 +156,11 @@ class Warnings(Folder):
         self.stand_in("ctrel", SECURE, 0)
         self.assertNotIn("warning", self.run_list(self.row("secure"))[1])
 
+    def test_secure_whose_run_is_not_known(self):
+        self.stand_in("ctrel", SECURE, 0)
+        self.stand_in("ctrace", STEP + "end stop\n", 0, "sleep 60")
+        self.assertIn("warning: how the run", self.run_list(self.row("secure"), words=("--seconds", "1"))[1])
+
     def test_insecure(self):
         self.stand_in("ctrace", STEP + "end fault\n", 0)
         self.assertNotIn("warning", self.run_list(self.row("insecure"))[1])

@@ -3,9 +3,10 @@
 
 In a document a block with the mark 'console' has commands, each after '$ ', with what
 it writes below it. A block whose mark ends with a file's name is written to that file
-first. All blocks of a document are run in one new folder that has the programs CTREL
-and CTRACE as ctrel and ctrace, and copies of examples/ and contrib/. A document is
-passed over from the first command on whose program isn't there.
+first. All blocks of a section are run in one new folder that has the programs CTREL
+and CTRACE as ctrel and ctrace, and copies of examples/ and contrib/. A section is
+passed over from the first command on whose program isn't there, or is a compiler of
+another version.
 """
 import dataclasses
 import os
@@ -22,6 +23,8 @@ OUTPUTS = "crates/ctrel_examples"
 BLOCK = re.compile(r"^```([^\n]+)\n(.*?)^```$", re.M | re.S)
 SECONDS = re.compile(r" *[0-9]+\.[0-9]$", re.M)
 MARK = "\0"
+COMPILER = "riscv64-unknown-elf-gcc"
+VERSION = "12.2.0"
 
 
 @dataclasses.dataclass
@@ -57,6 +60,8 @@ def prepare(folder: pathlib.Path) -> None:
 def is_there(command: Command) -> bool:
     """Whether the command's program is there."""
     program = command.line.split()[0].lstrip("(")
+    if program == COMPILER and shutil.which(COMPILER):
+        return subprocess.run([COMPILER, "-dumpversion"], capture_output=True, text=True).stdout.strip() == VERSION
     return "/" in program or shutil.which(program) is not None
 
 
@@ -85,23 +90,26 @@ def differing(where: str, commands: list[Command], texts: list[str]) -> int:
     return len(wrong)
 
 
-def check_document(name: str) -> tuple[int, int]:
-    """How many commands a document has, and how many of them write something else."""
+def commands_in(section: str) -> list[Command]:
+    """The commands of a section's blocks, and those that write its files."""
     commands = []
-    with tempfile.TemporaryDirectory() as place:
-        folder = pathlib.Path(place)
-        prepare(folder)
-        for mark, text in BLOCK.findall((TOP / name).read_text(encoding="utf-8")):
-            if mark == "console":
-                commands += commands_of(text)
-            elif " " in mark:
-                commands.append(Command(f"cat >{mark.split()[1]} <<'END'\n{text}END\n", ""))
-        for at, command in enumerate(commands):
-            if not is_there(command):
-                print(f"{name}: passed over from here on: {command.line}", end="")
-                commands = commands[:at]
-                break
-        return len(commands), differing(name, commands, written(commands, folder))
+    for mark, text in BLOCK.findall(section):
+        if mark == "console":
+            commands += commands_of(text)
+        elif " " in mark:
+            commands.append(Command(f"cat >{mark.split()[1]} <<'END'\n{text}END\n", ""))
+    return commands
+
+
+def check_section(name: str, section: str) -> tuple[int, int]:
+    """How many commands of a section are run, and how many of them write something else."""
+    commands = commands_in(section)
+    missing = next((at for at, command in enumerate(commands) if not is_there(command)), len(commands))
+    if missing < len(commands):
+        print(f"{name}: passed over to the end of the section: {commands[missing].line}", end="")
+    with tempfile.TemporaryDirectory() as folder:
+        prepare(pathlib.Path(folder))
+        return missing, differing(name, commands[:missing], written(commands[:missing], pathlib.Path(folder)))
 
 
 def check_outputs() -> tuple[int, int]:
@@ -117,7 +125,10 @@ def check_outputs() -> tuple[int, int]:
 
 
 def main() -> int:
-    results = [check_document(name) for name in DOCUMENTS] + [check_outputs()]
+    sections = [
+        (name, section) for name in DOCUMENTS for section in (TOP / name).read_text(encoding="utf-8").split("\n## ")
+    ]
+    results = [check_section(*section) for section in sections] + [check_outputs()]
     total, wrong = (sum(column) for column in zip(*results))
     print(f"documents: {total} commands run, {wrong} write something else than is shown")
     return 1 if wrong else 0

@@ -44,6 +44,8 @@ class Outcome:
     def warning(self) -> str | None:
         """Why a verdict says less than it seems to."""
         how = UNFINISHED.get(self.ending())
+        if self.verdict() == "secure" and self.trace is None:
+            return "how the run with all input bytes 0 ends isn't known: ctrace didn't end in its time"
         if self.verdict() != "secure" or how is None:
             return None
         return f"secure covers little: the run with all input bytes 0 {how}, after {numbered(self.steps(), 'step')}"

@@ -7,6 +7,7 @@ SECTION = struct.Struct("<10I")
 SYMBOL = struct.Struct("<IIIBBH")
 SYMBOL_TABLE = 2
 NO_TYPE, FUNCTION = 0, 2
+EXECUTED = 4
 
 
 @dataclass(frozen=True)
@@ -48,27 +49,40 @@ def bytes_of(file: bytes, header: tuple[int, ...]) -> bytes:
     return file[header[4] : header[4] + header[5]]
 
 
-def symbols_of(file: bytes, sections: list) -> list[tuple[int, int, int, str]]:
-    """The value, the size, the type and the name of each symbol of a piece of code."""
+@dataclass(frozen=True)
+class Symbol:
+    """A name for a piece of code, whose size may be 0, and the end of its section."""
+
+    value: int
+    size: int
+    kind: int
+    name: str
+    limit: int
+
+
+def symbols_of(file: bytes, sections: list) -> list[Symbol]:
+    """The symbols of pieces of code."""
     found = []
     for _, header in sections:
         if header[1] != SYMBOL_TABLE:
             continue
         text = bytes_of(file, sections[header[6]][1])
         for name, value, size, info, _, section in SYMBOL.iter_unpack(bytes_of(file, header)):
-            is_code = 0 < section < len(sections) and sections[section][1][2] & 4
-            if name and is_code and info & 15 in (NO_TYPE, FUNCTION):
-                found.append((value, size, info & 15, name_in(text, name)))
-    return [symbol for symbol in found if not symbol[3].startswith("$")]
+            if name and info & 15 in (NO_TYPE, FUNCTION) and 0 < section < len(sections):
+                flags, address, length = (sections[section][1][at] for at in (2, 3, 5))
+                symbol = Symbol(value, size, info & 15, name_in(text, name), address + length)
+                found += [symbol] * bool(flags & EXECUTED and not symbol.name.startswith("$"))
+    return found
 
 
-def routines_of(symbols: list[tuple[int, int, int, str]]) -> tuple[Routine, ...]:
-    """Functions with their sizes, and labels without up to the next symbol, in ascending address."""
-    starts = sorted({value for value, *_ in symbols})
+def routines_of(symbols: list[Symbol]) -> tuple[Routine, ...]:
+    """Functions with their sizes, and labels up to the next symbol or their section's end, in ascending address."""
+    starts = sorted({symbol.value for symbol in symbols})
     routines = {}
-    for value, size, kind, name in sorted(symbols, key=lambda symbol: (symbol[2], symbol[3])):
-        following = next((start for start in starts if start > value), value + 4)
-        routines[value] = Routine(name, value, value + size if size else following)
+    for symbol in sorted(symbols, key=lambda symbol: (symbol.kind, symbol.name)):
+        following = next((start for start in starts if start > symbol.value), symbol.limit)
+        end = symbol.value + symbol.size if symbol.size else following
+        routines[symbol.value] = Routine(symbol.name, symbol.value, end)
     return tuple(routines[start] for start in sorted(routines))
 
 
