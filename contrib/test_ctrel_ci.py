@@ -150,7 +150,7 @@ class Warnings(Folder):
             self.stand_in("ctrace", STEP + f"end {ending}\n", 0)
             status, text = self.run_list(self.row("secure"))
             self.assertEqual(status, 0)
-            self.assertIn("routine: warning: secure covers little", text)
+            self.assertIn("routine: warning: secure leaves out what comes later", text)
 
     def test_secure_that_ends_as_it_should(self):
         self.stand_in("ctrel", SECURE, 0)

@@ -48,7 +48,8 @@ class Outcome:
             return "how the run with all input bytes 0 ends isn't known: ctrace didn't end in its time"
         if self.verdict() != "secure" or how is None:
             return None
-        return f"secure covers little: the run with all input bytes 0 {how}, after {numbered(self.steps(), 'step')}"
+        when = numbered(self.steps(), "step")
+        return f"secure leaves out what comes later: the run with all input bytes 0 {how}, after {when}"
 
     def steps(self) -> int:
         return min(self.trace.steps, self.report.bound)
@@ -59,9 +60,10 @@ class Outcome:
             return None
         if self.error:
             return self.error
-        late = "" if self.in_time else ", below the bound: the check of the whole one didn't end in its time"
+        late = "" if self.in_time else ": the check didn't end in its time"
+        below = ", below the bound" if self.report and late else ""
         found = self.verdict() if self.report else "no verdict"
-        return f"{self.check.expected} was expected, and {found} was found{late}"
+        return f"{self.check.expected} was expected, and {found} was found{below}{late}"
 
 
 def ask(programs: Programs, check: Check) -> Report | None:

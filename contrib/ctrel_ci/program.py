@@ -59,7 +59,8 @@ class Progress:
 
     def show(self, name: str) -> None:
         if sys.stderr.isatty():
-            print(f"\r{self.done} of {self.total} done {printable(name)[:40]}\x1b[K", end="", file=sys.stderr, flush=True)
+            line = f"{self.done} of {self.total} done {printable(name)[:40]}"
+            print(f"\r{line}\x1b[K", end="", file=sys.stderr, flush=True)
 
     def finish(self, name: str) -> None:
         with self.lock:

@@ -71,7 +71,7 @@ class Programs:
     seconds: float
 
     def make_ready(self) -> list[str]:
-        """Calls both with no words, which they refuse. A launcher builds its program before that. Returns what it says."""
+        """Calls both with no words, which they refuse. Returns what launchers say, which build them before that."""
         said = []
         for program in (self.ctrel, self.ctrace):
             ran = run([program], None)
