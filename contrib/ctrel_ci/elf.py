@@ -70,9 +70,9 @@ def symbols_of(file: bytes, sections: list) -> list[Symbol]:
         for name, value, size, info, _, section in SYMBOL.iter_unpack(bytes_of(file, header)):
             if name and info & 15 in (NO_TYPE, FUNCTION) and 0 < section < len(sections):
                 flags, address, length = (sections[section][1][at] for at in (2, 3, 5))
-                symbol = Symbol(value, size, info & 15, name_in(text, name), address + length)
-                found += [symbol] * bool(flags & EXECUTED and not symbol.name.startswith("$"))
-    return found
+                if flags & EXECUTED and address <= value < address + length:
+                    found.append(Symbol(value, size, info & 15, name_in(text, name), address + length))
+    return [symbol for symbol in found if not symbol.name.startswith("$")]
 
 
 def routines_of(symbols: list[Symbol]) -> tuple[Routine, ...]:
@@ -81,7 +81,7 @@ def routines_of(symbols: list[Symbol]) -> tuple[Routine, ...]:
     routines = {}
     for symbol in sorted(symbols, key=lambda symbol: (symbol.kind, symbol.name)):
         following = next((start for start in starts if start > symbol.value), symbol.limit)
-        end = symbol.value + symbol.size if symbol.size else following
+        end = symbol.value + symbol.size if symbol.size else min(following, symbol.limit)
         routines[symbol.value] = Routine(symbol.name, symbol.value, end)
     return tuple(routines[start] for start in sorted(routines))
 
