@@ -2,6 +2,7 @@ pub mod GivenLaws
 pub mod TrailLaws
 pub mod PropagationLaws
 pub mod AnalysisLaws
+pub mod AscentLaws
 pub mod JumpLaws
 pub mod SearchLaws
 pub mod WatchLaws

@@ -1,8 +1,9 @@
 //! The way from a conflict to the clause that is learnt.
-ghost use Rattle.std.specs.Prelude.{◌≡◌, ◌<◌, [], true, IfOk};
+ghost use Rattle.std.specs.Prelude.{◌≡◌, ◌<◌, ◌≤◌, [], true, length, IfOk};
 ghost use Rattle.std.specs.Bool.{MatchBool};
+ghost use Rattle.std.specs.List.{AllWithin};
 ghost use Rattle.cnf_form.specs.Literals.{has};
-ghost use Rattle.cnf_form.specs.Clauses.{all_below, are_clauses};
+ghost use Rattle.cnf_form.specs.Clauses.{all_below, are_clauses, is_ascending};
 ghost use Rattle.cnf_form.specs.Derivation.{IsDerived};
 ghost use Rattle.cdcl.specs.Trail.{lits_of, level_of, AllFalse, IsTrail, IsFalsified, IsLearnt};
 ghost use Rattle.cdcl.specs.Analysis.{IsOther, AreOthersLower};
@@ -13,7 +14,7 @@ use cnf_form::{Clauses, Line, Lit};
 use std::alloc::{AllocError, Global};
 
 /// The line of a conflict: at level 0 the empty clause, else the clause of the first unique implication
-/// point.
+/// point. Looks for each literal that was assigned since in the clause so far, by halving it.
 pub(crate) fn analyze(
     alloc: Global,
     trail: &Trail,
@@ -48,15 +49,26 @@ pub(crate) fn analyze(
     Ok(derived.into_line())
 }
 
+/// How many literals of a clause are of smaller variables, found by halving it.
+fn smaller(lits: &[Lit], var: u32) -> usize
+    requires ascending { is_ascending lits.now ≡ true }
+    ensures bound { result ≤ length lits.now }
+    ensures smaller { AllWithin (λ lit. lit.var < var) lits.now 0 result }
+    ensures others { AllWithin (λ lit. var ≤ lit.var) lits.now result (length lits.now) }
+{
+    lits.partition_point(|lit| lit.var < var)
+}
+
+/// Whether a literal is one of a clause's.
 fn contains(lits: &[Lit], lit: Lit) -> bool
+    requires ascending { is_ascending lits.now ≡ true }
     ensures { result ≡ has lits.now lit }
 {
-    for l in lits {
-        if l.var == lit.var && l.negated == lit.negated {
-            return true;
-        }
+    let at = smaller(lits, lit.var);
+    if at == lits.len() {
+        return false;
     }
-    false
+    lits[at] == lit
 }
 
 /// Whether another literal than this is of the current level.

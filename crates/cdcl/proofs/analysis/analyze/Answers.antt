@@ -205,3 +205,6 @@ returns-clause-empty c =
 
 pub returns-clause-in_range : goal.returns-clause-in_range
 returns-clause-in_range c = line_in_range c.args.trail.now.vars c.args.clauses.now c.args.trail.now.entries _ c.walk.derived.so_far.items c.into_line-2.result.clause c.walk.derived.chain.items c.entries-entries.ensures.in_range c.walk.invariant.analysis c.into_line-2.ensures.clause
+
+pub contains-requires : goal.contains-requires
+contains-requires c = record { ascending = subst (λ (ls : List Lit). is_ascending ls ≡ true) (sym c.as_slice.ensures.value) c.walk.invariant.ascending }
