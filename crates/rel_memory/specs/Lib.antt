@@ -1,4 +1,5 @@
 pub mod Contents
 pub mod Log
+pub mod Meeting
 pub mod Selecting
 pub mod Spanning

@@ -1,11 +1,12 @@
 //! Bytes that may have been replaced by a write.
 
-ghost use Rattle.std.specs.Prelude.{◌≡◌, ◌==◌, ◌<◌, ◌≤◌, ℕ, Bool, IfOk, IsTrue, if◌then◌else◌};
+ghost use Rattle.std.specs.Prelude.{◌≡◌, ◌==◌, ◌<◌, ◌≤◌, ℕ, Bool, false, IfOk, IsTrue, if◌then◌else◌};
 ghost use Rattle.bv_expr.specs.Nodes.{IsValuation, AreBytes, HasWidth};
 ghost use Rattle.bv_expr.specs.Growth.{Extends, AddsNoInput};
 ghost use Rattle.bv_range.specs.Known.{IsWithin};
 ghost use Rattle.bv_range.specs.Remembered.{AreRight};
 ghost use Rattle.rel_store.specs.Sides.{side_id, HasSides};
+ghost use Rattle.rel_memory.specs.Meeting.{MayMeet};
 
 use bv_expr::{Arena, ExprId};
 use bv_range::{Range, Ranges};
@@ -15,14 +16,16 @@ use std::alloc::AllocError;
 
 /// Whether no number lies in both ranges, as far as bits and ends tell.
 pub fn are_apart(a: Range, b: Range) -> bool
-    ensures { IsTrue result → (x : ℕ) → IsWithin a x → IsWithin b x → ⊥ }
+    ensures apart { IsTrue result → (x : ℕ) → IsWithin a x → IsWithin b x → ⊥ }
+    ensures otherwise { result ≡ false → MayMeet a b }
 {
     a.most < b.least || b.most < a.least || (a.zeros & b.ones) | (a.ones & b.zeros) != 0
 }
 
-/// Whether a number may lie in a range, as far as bits and ends tell.
+/// Whether a number lies in a range.
 pub fn may_be(range: Range, number: u32) -> bool
-    ensures { IsWithin range number → IsTrue result }
+    ensures within { IsTrue result → IsWithin range number }
+    ensures all { IsWithin range number → IsTrue result }
 {
     if number < range.least || number > range.most {
         return false;

@@ -11,7 +11,7 @@ returns-then-are_apart-clause-value c = λ env v bytes run right.
     let apart : v c.args.address.0 ≢ v c.args.at.0 = λ same.
     let in_at = c.in_ok-of_at.ensures.range.right env v bytes run in
     let P : ℕ → Type 0 = λ n. IsWithin c.in_ok-of_at.of_at n in
-    c.are_apart.ensures c.if-are_apart.true (v c.args.address.0) (c.in_ok-of_address.ensures.range.right env v bytes run) (subst P (sym same) in_at) in
+    c.are_apart.ensures.apart c.if-are_apart.true (v c.args.address.0) (c.in_ok-of_address.ensures.range.right env v bytes run) (subst P (sym same) in_at) in
     rw (ne_eqb _ _ apart) refl
 
 pub returns-in_err-byte-clause-ranges : goal.returns-in_err-byte-clause-ranges
