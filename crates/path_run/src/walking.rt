@@ -211,6 +211,7 @@ impl Walk {
         ensures idle { IfOk result IsIdle }
         ensures path { IfOk result (λ walk. path_of walk ≡ path) }
         ensures nothing { IfOk result (λ walk. listed_of walk ≡ []) }
+        ensures doubts { IfOk result (λ walk. doubts_of walk ≡ 0) }
         ensures passes { length kit.new.items ≡ length kit.old.items }
     {
         let node = node_for(alloc, job, node, &path, kit)?;
