@@ -46,6 +46,15 @@ impl Checked {
         &self.verdict
     }
 
+    /// The question and its verdict.
+    pub fn into_parts(self) -> (Question, Verdict)
+        ensures question { result.0 ≡ self.question }
+        ensures verdict { result.1 ≡ self.verdict }
+    {
+        let Checked { question, verdict } = self;
+        (question, verdict)
+    }
+
     /// Law: the verdict is right for the question.
     pub fn law(&self)
         ensures { IsVerdict self.now.question self.now.verdict }

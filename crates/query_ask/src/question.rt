@@ -6,7 +6,7 @@ use std::marker::Model;
 
 /// Whether some bytes for the variables make the conjuncts and the asked node true, which are nodes of one
 /// bit. The operands of a node are earlier nodes, by their numbers.
-#[derive(Debug, Drop)]
+#[derive(Debug, Drop, PartialEq, Eq, Hash)]
 pub struct Question {
     vars: usize,
     nodes: Row<QNode>,
@@ -20,6 +20,8 @@ impl Model for Question {
     ghost Value = { Asked };
 
     ghost view = { λ q. record { vars = q.vars; nodes = q.nodes; conjuncts = q.conjuncts; asked = q.asked } };
+
+    ghost inverse = { λ q. record { vars = q.vars; nodes = q.nodes; conjuncts = q.conjuncts; asked = q.asked } };
 
     ghost invariant = { λ q. IsQuestion (record { vars = q.vars; nodes = q.nodes; conjuncts = q.conjuncts; asked = q.asked }) };
 }
