@@ -1,0 +1,16 @@
+//! The pool of paths that members of a crew share.
+#![tactic(auto)]
+
+mod pool_end;
+mod pool_seat;
+mod pulled;
+mod shared_pool;
+mod turn;
+
+pub use pool_end::PoolEnd;
+pub use pool_seat::PoolSeat;
+pub use pulled::Pulled;
+pub use shared_pool::{MOST_SEATS, SharedPool};
+
+#[cfg(test)]
+mod tests;
