@@ -38,6 +38,10 @@ ending_line ending = line (codes "end " ++ ending_name ending)
 unfoldable pub trace_from : List Cell → List ℕ → State → ℕ → List ℕ
 trace_from image stops s bound = record_lines 1 (trail image stops s bound) ++ ending_line (state_after image stops s bound).ending
 
+-- the run of a job from the start with these values for its public and for its secret bytes
+unfoldable pub start_trace : Job → List ℕ → List ℕ → List ℕ
+start_trace job shared secret = trace_from job.image job.stops (start job shared secret) job.bound
+
 -- the run of a job in which its one input byte, a secret one, is 0
 unfoldable pub trace_of : Job → List ℕ
 trace_of job = trace_from job.image job.stops (start job [] (0 ∷ [])) job.bound

@@ -5,7 +5,7 @@ mod list;
 mod trace;
 
 pub use list::list_text;
-pub use trace::trace_text;
+pub use trace::{start_trace_text, trace_text};
 
 #[cfg(test)]
 mod tests;

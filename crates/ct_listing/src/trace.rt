@@ -7,7 +7,7 @@ ghost use Rattle.rv_image.specs.Image.{size_of};
 ghost use Rattle.rv_machine.specs.Trail.{trail, state_after};
 ghost use Rattle.ct_pairs.specs.Inputs.{public_count, secret_count};
 ghost use Rattle.ct_pairs.specs.Start.{bounded_trail};
-ghost use Rattle.ct_listing.specs.Trace.{record_line, record_lines, ending_name, ending_line, trace_of};
+ghost use Rattle.ct_listing.specs.Trace.{record_line, record_lines, ending_name, ending_line, start_trace, trace_of};
 
 use ct_pairs::{Job, start_machine};
 use ct_rows::Text;
@@ -77,20 +77,38 @@ fn push_ending_line(text: &mut String, ending: Option<End>) -> Result<(), AllocE
     writeln!(text, "end {}", name_of(ending))
 }
 
-/// The trace of the run of a job in which its one input byte, a secret one, is 0: a line for each
-/// step, up to the bound of the job, and then how the run ended.
+/// The trace of the run of a job from the start with these values for its public and for its secret
+/// bytes: a line for each step, up to the bound of the job, and then how the run ended.
 ///
 /// The time grows with the steps and with the accessible bytes, which the machine copies; the memory
 /// with these bytes and with the text, of at most 65 bytes a step.
-#[tactic(auto, unfolding(crate::specs::Trace::trace_of, crate::specs::Trace::trace_from))]
+#[tactic(auto, unfolding(crate::specs::Trace::start_trace, crate::specs::Trace::trace_from))]
+pub fn start_trace_text(
+    alloc: Global,
+    job: &Job,
+    shared: &[u8],
+    secret: &[u8],
+) -> Result<Text, AllocError>
+    requires shared { length shared.now ≡ public_count job.now.inputs }
+    requires secret { length secret.now ≡ secret_count job.now.inputs }
+    ensures { IfOk result (λ text. text ≡ start_trace job.now shared.now secret.now) }
+{
+    let mut machine = start_machine(alloc, job, shared, secret)?;
+    let mut text = String::new(alloc);
+    push_record_lines(&mut text, job, &mut machine)?;
+    push_ending_line(&mut text, machine.ending())?;
+    Ok(Text::from_string(text))
+}
+
+/// The trace of the run of a job in which its one input byte, a secret one, is 0: a line for each
+/// step, up to the bound of the job, and then how the run ended.
+///
+/// Its time and its memory are those of `start_trace_text`.
+#[tactic(auto, unfolding(crate::specs::Trace::trace_of, crate::specs::Trace::start_trace))]
 pub fn trace_text(alloc: Global, job: &Job) -> Result<Text, AllocError>
     requires public { public_count job.now.inputs ≡ 0 }
     requires secret { secret_count job.now.inputs ≡ 1 }
     ensures { IfOk result (λ text. text ≡ trace_of job.now) }
 {
-    let mut machine = start_machine(alloc, job, &[], &[0])?;
-    let mut text = String::new(alloc);
-    push_record_lines(&mut text, job, &mut machine)?;
-    push_ending_line(&mut text, machine.ending())?;
-    Ok(Text::from_string(text))
+    start_trace_text(alloc, job, &[], &[0])
 }

@@ -11,8 +11,8 @@ use std::fmt::{self, Write};
 
 /// A sink as something to print to.
 #[derive(Drop)]
-struct Printer<'a, S: Sink> {
-    sink: &'a mut S,
+pub struct Printer<'a, S: Sink> {
+    pub sink: &'a mut S,
 }
 
 impl<S: Sink> Write for Printer<'_, S> {

@@ -13,12 +13,15 @@ mod program;
 mod refusal;
 mod task;
 
-pub use errors::tell;
+pub use errors::{Printer, tell};
 pub use finished::Finished;
 pub use laws::leak_sites_law;
-pub use process::{finish, run, run_with};
+pub use output::write_made;
+pub use preparation::prepare;
+pub use process::{finish, run, run_with, words_of};
 pub use program::{ASKED_BEFORE, ctrel};
 pub use refusal::Refusal;
+pub use task::Task;
 
 #[cfg(test)]
 mod tests;

@@ -17,7 +17,7 @@ use std::io::ErrorKind;
 use std::process::ExitCode;
 
 /// The words after the program's name. A word that isn't UTF-8 is no word of a command.
-fn words_of(rt: &HostRuntime) -> Result<Vec<String>, Refusal> {
+pub fn words_of(rt: &HostRuntime) -> Result<Vec<String>, Refusal> {
     let all = match env::args(rt) {
         Ok(all) => all,
         Err(error) if error.kind() == ErrorKind::OutOfMemory => return Err(Refusal::Memory),

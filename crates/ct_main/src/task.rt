@@ -5,7 +5,7 @@ use elf_load::Elf;
 
 /// What remains to be done once a command's files have passed.
 #[derive(Debug, Drop)]
-pub(crate) enum Task {
+pub enum Task {
     /// Check the job of one secret byte by running all its pairs, and report what was found.
     Byte(Job),
     /// Check the job and report what was found.

@@ -1,0 +1,4 @@
+pub mod Words
+pub mod Traces
+pub mod Answer
+pub mod Showing
