@@ -3,10 +3,13 @@
 
 mod failed;
 mod failing_calls;
+mod gate;
+mod meet_gate;
 mod memory_shelf;
 mod memory_sink;
 mod named_files;
 mod never_shelf;
+mod open_gate;
 mod reading;
 mod real_shelf;
 mod real_sink;
@@ -15,9 +18,12 @@ mod sink;
 mod writing;
 
 pub use failed::Failed;
+pub use gate::Gate;
+pub use meet_gate::MeetGate;
 pub use memory_shelf::MemoryShelf;
 pub use memory_sink::MemorySink;
 pub use never_shelf::NeverShelf;
+pub use open_gate::OpenGate;
 pub use reading::{LONGEST, ReadEnd, read_all};
 pub use real_shelf::RealShelf;
 pub use real_sink::RealSink;

@@ -6,6 +6,7 @@ use super::*;
 use std::alloc::{AllocError, Global};
 use std::fs;
 use std::test::Fail;
+use std::thread::join;
 
 // The bytes from 0 to 99.
 fn rows(alloc: Global) -> Result<Vec<u8>, AllocError> {
@@ -127,5 +128,27 @@ fn real_sinks_take_a_text(rt: HostRuntime) -> Result<(), Fail> {
     assert_eq!(rt; write_all(&mut out, b"leaks 0\n"), Ok(()));
     let mut errors = RealSink::new(rt.stderr());
     assert_eq!(rt; write_all(&mut errors, b"ctrel: words\n"), Ok(()));
+    Ok(())
+}
+
+fn pass<G: Gate>(gate: &G, members: [u32; 2]) {
+    for member in members {
+        gate.pass(member);
+    }
+}
+
+#[test]
+fn two_members_meet_at_a_gate(rt: HostRuntime) -> Result<(), Fail> {
+    pass(&OpenGate, [0, 1]);
+    let gate = MeetGate::new();
+    pass(&gate, [2, 3]);
+    assert!(rt; !gate.met(), "neither came");
+    let shared = &gate;
+    join(
+        &rt,
+        move || pass(shared, [0, 0]),
+        move || pass(shared, [1, 1]),
+    );
+    assert!(rt; gate.met());
     Ok(())
 }
