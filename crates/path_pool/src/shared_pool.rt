@@ -44,8 +44,8 @@ impl SharedPool {
     /// is.
     pub fn take<R: Wait>(
         &self,
-        alloc: Global,
         rt: &R,
+        alloc: Global,
         seat: &mut PoolSeat,
     ) -> Result<Pulled, AllocError>
         ensures seat { seat.new ≡ seat.old }

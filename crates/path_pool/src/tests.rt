@@ -16,12 +16,12 @@ fn path_to(alloc: Global, next: u32) -> Result<Path, AllocError> {
 
 // The number of the path that a seat gets, and its first next.
 fn taken<R: Wait>(
-    alloc: Global,
     rt: &R,
+    alloc: Global,
     pool: &SharedPool,
     seat: &mut PoolSeat,
 ) -> Result<Option<(u64, Option<u32>)>, AllocError> {
-    match pool.take(alloc, rt, seat)? {
+    match pool.take(rt, alloc, seat)? {
         Pulled::Path { number, path } => Ok(Some((number, path.nexts.get(0).copied()))),
         Pulled::Finished => Ok(None),
     }
@@ -32,7 +32,7 @@ fn replies_of_a_pool_with_one_seat(rt: HostRuntime) -> Result<(), Fail> {
     let alloc = rt.alloc();
     let (pool, mut seats) = SharedPool::make(alloc, 1)?;
     let mut seat = seats.pop().ok_or("a seat")?;
-    assert_eq!(rt; taken(alloc, &rt, &pool, &mut seat)?, Some((0, None)));
+    assert_eq!(rt; taken(&rt, alloc, &pool, &mut seat)?, Some((0, None)));
     let kids = vec![in alloc; path_to(alloc, 4)?, path_to(alloc, 8)?]?;
     match pool.split(&rt, &mut seat, 9, kids) {
         Err(SplitRefusal::NotYours { holder, kids }) => {
@@ -46,14 +46,14 @@ fn replies_of_a_pool_with_one_seat(rt: HostRuntime) -> Result<(), Fail> {
         Err(NotYours { holder: None })
     );
     assert_eq!(rt; pool.close(&rt, &mut seat, 1), Ok(()));
-    assert_eq!(rt; taken(alloc, &rt, &pool, &mut seat)?, Some((2, Some(8))));
+    assert_eq!(rt; taken(&rt, alloc, &pool, &mut seat)?, Some((2, Some(8))));
     assert_eq!(rt;
-        taken(alloc, &rt, &pool, &mut seat)?,
+        taken(&rt, alloc, &pool, &mut seat)?,
         None,
         "it holds a path"
     );
     assert_eq!(rt; pool.close(&rt, &mut seat, 2), Ok(()));
-    assert_eq!(rt; taken(alloc, &rt, &pool, &mut seat)?, None);
+    assert_eq!(rt; taken(&rt, alloc, &pool, &mut seat)?, None);
     let end = pool.end(vec![in alloc; seat]?)?;
     assert_eq!(rt;
         end.bag.counts(),
@@ -72,27 +72,27 @@ fn a_path_given_back_is_taken_by_another_seat(rt: HostRuntime) -> Result<(), Fai
     let (pool, mut seats) = SharedPool::make(alloc, 2)?;
     let mut second = seats.pop().ok_or("two seats")?;
     let mut first = seats.pop().ok_or("two seats")?;
-    assert_eq!(rt; taken(alloc, &rt, &pool, &mut first)?, Some((0, None)));
+    assert_eq!(rt; taken(&rt, alloc, &pool, &mut first)?, Some((0, None)));
     assert_eq!(rt;
         pool.give_back(&rt, &mut second, 0),
         Err(NotYours { holder: Some(0) })
     );
     assert_eq!(rt; pool.give_back(&rt, &mut first, 0), Ok(()));
-    assert_eq!(rt; taken(alloc, &rt, &pool, &mut first)?, None, "it has ended");
-    assert_eq!(rt; taken(alloc, &rt, &pool, &mut second)?, Some((0, None)));
+    assert_eq!(rt; taken(&rt, alloc, &pool, &mut first)?, None, "it has ended");
+    assert_eq!(rt; taken(&rt, alloc, &pool, &mut second)?, Some((0, None)));
     Ok(())
 }
 
 // Closes paths until none is left, and says how many. The path with no next is split in two.
 fn work<R: Wait>(
-    alloc: Global,
     rt: &R,
+    alloc: Global,
     pool: &SharedPool,
     mut seat: PoolSeat,
 ) -> Result<(PoolSeat, u64), AllocError> {
     let mut closed = 0u64;
     for _ in rt.forever() {
-        let Some((mut number, next)) = taken(alloc, rt, pool, &mut seat)? else {
+        let Some((mut number, next)) = taken(rt, alloc, pool, &mut seat)? else {
             break;
         };
         if next.is_none() {
@@ -109,15 +109,15 @@ fn work<R: Wait>(
     Ok((seat, closed))
 }
 
-fn work_by_two<R: Threads + Wait + Sync>(alloc: Global, rt: &R) -> Result<(u64, u64), Fail> {
+fn work_by_two<R: Threads + Wait + Sync>(rt: &R, alloc: Global) -> Result<(u64, u64), Fail> {
     let (pool, mut seats) = SharedPool::make(alloc, 2)?;
     let second = seats.pop().ok_or("two seats")?;
     let first = seats.pop().ok_or("two seats")?;
     let shared = &pool;
     let (one, two) = join(
         rt,
-        move || work(alloc, rt, shared, first),
-        move || work(alloc, rt, shared, second),
+        move || work(rt, alloc, shared, first),
+        move || work(rt, alloc, shared, second),
     );
     let (first, closed) = one?;
     let (second, closed_too) = two?;
@@ -127,6 +127,6 @@ fn work_by_two<R: Threads + Wait + Sync>(alloc: Global, rt: &R) -> Result<(u64, 
 
 #[test]
 fn two_threads_close_both_kids(rt: HostRuntime) -> Result<(), Fail> {
-    assert_eq!(rt; work_by_two(rt.alloc(), &rt)?, (2, 3));
+    assert_eq!(rt; work_by_two(&rt, rt.alloc())?, (2, 3));
     Ok(())
 }

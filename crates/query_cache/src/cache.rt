@@ -1,6 +1,6 @@
 //! A cache of settled questions, for one thread.
 
-use crate::copying::copy_of;
+use crate::copying::copy_of_verdict;
 use crate::kept::Kept;
 use lru::LruCache;
 use query_ask::{Checked, Question, Verdict};
@@ -107,7 +107,7 @@ impl Cache {
         ensures { IfOk result (λ found. IfSome found (IsVerdict question.now)) }
     {
         match self.look(question) {
-            Some(verdict) => Ok(Some(copy_of(alloc, verdict)?)),
+            Some(verdict) => Ok(Some(copy_of_verdict(alloc, verdict)?)),
             None => Ok(None),
         }
     }

@@ -5,7 +5,8 @@ use bv_expr::Values;
 use query_ask::Verdict;
 use std::alloc::{AllocError, Global};
 
-pub(crate) fn copy_of(alloc: Global, verdict: &Verdict) -> Result<Verdict, AllocError>
+/// A copy of a verdict. Its cost is that of its values.
+pub fn copy_of_verdict(alloc: Global, verdict: &Verdict) -> Result<Verdict, AllocError>
     ensures { IfOk result (λ copy. copy ≡ verdict.now) }
 {
     match verdict {

@@ -7,6 +7,7 @@ mod kept;
 mod shared_cache;
 
 pub use cache::{Cache, MOST_ENTRIES, MOST_NODES};
+pub use copying::copy_of_verdict;
 pub use kept::Kept;
 pub use shared_cache::SharedCache;
 

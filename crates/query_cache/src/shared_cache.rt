@@ -27,8 +27,8 @@ impl SharedCache {
     /// A copy of the verdict on a question, where one is kept.
     pub fn look<R: Wait>(
         &self,
-        alloc: Global,
         rt: &R,
+        alloc: Global,
         question: &Question,
     ) -> Result<Option<Verdict>, AllocError>
         ensures { IfOk result (λ found. IfSome found (IsVerdict question.now)) }

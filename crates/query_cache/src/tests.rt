@@ -89,10 +89,10 @@ fn a_cache_answers_what_it_kept(rt: HostRuntime) -> Result<(), Fail> {
     Ok(())
 }
 
-fn look_by_two<R: Threads + Wait + Sync>(alloc: Global, rt: &R) -> Result<u64, Fail> {
+fn look_by_two<R: Threads + Wait + Sync>(rt: &R, alloc: Global) -> Result<u64, Fail> {
     let shared = SharedCache::new(alloc)?;
     let question = is_below(alloc, 3, 5)?;
-    if shared.look(alloc, rt, &question)?.is_some() {
+    if shared.look(rt, alloc, &question)?.is_some() {
         return Err(Fail::from("nothing was kept"));
     }
     if shared.keep(rt, settled(alloc, 4092, 5)?) != Kept::TooLarge {
@@ -104,8 +104,8 @@ fn look_by_two<R: Threads + Wait + Sync>(alloc: Global, rt: &R) -> Result<u64, F
     let (cache, asked) = (&shared, &question);
     let (one, two) = join(
         rt,
-        move || cache.look(alloc, rt, asked),
-        move || cache.look(alloc, rt, asked),
+        move || cache.look(rt, alloc, asked),
+        move || cache.look(rt, alloc, asked),
     );
     match (one?, two?) {
         (Some(Verdict::Yes(_)), Some(Verdict::Yes(_))) => Ok(shared.hits(rt)),
@@ -115,6 +115,6 @@ fn look_by_two<R: Threads + Wait + Sync>(alloc: Global, rt: &R) -> Result<u64, F
 
 #[test]
 fn two_threads_look_into_a_shared_cache(rt: HostRuntime) -> Result<(), Fail> {
-    assert_eq!(rt; look_by_two(rt.alloc(), &rt)?, 2);
+    assert_eq!(rt; look_by_two(&rt, rt.alloc())?, 2);
     Ok(())
 }
