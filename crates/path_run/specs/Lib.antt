@@ -1,9 +1,10 @@
-pub mod Counting
-pub mod Records
-pub mod Walks
 pub mod Asking
-pub mod Stages
+pub mod Counting
 pub mod Pairs
+pub mod Records
 pub mod Replays
+pub mod Stages
 pub mod Telling
+pub mod Answering
 pub mod Walking
+pub mod Walks

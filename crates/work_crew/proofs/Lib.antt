@@ -1,8 +1,10 @@
+pub mod Advancing
 pub mod Counted
 pub mod Ends
+pub mod Instead
 pub mod Merges
+pub mod Recording
 pub mod Reordered
 pub mod Tables
-pub mod Tree
-pub mod Advancing
 pub mod TopLaws
+pub mod Tree

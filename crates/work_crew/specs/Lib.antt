@@ -1,2 +1,4 @@
+pub mod Crew
 pub mod Exploring
 pub mod Merging
+pub mod TrueRecords

@@ -1,23 +1,29 @@
-//! The check of a job by one worker.
-ghost use Rattle.std.specs.Prelude.{◌≤◌, length, IfOk};
+//! The check of a job, by one worker or by many.
+ghost use Rattle.std.specs.Prelude.{◌≤◌, [], length, All, IfOk, vec_len};
 ghost use Rattle.rel_step.specs.declared.simplifying.TheConstants.{MOST_PASSES};
 ghost use Rattle.ct_report.specs.Outcomes.{IsCheckOf};
+ghost use Rattle.work_crew.specs.Crew.{HasFewPasses};
+ghost use Rattle.work_crew.specs.Exploring.{IsExploring};
 
-use crate::exploring::explore;
+use crate::crew::{MOST_WORKERS, records_of_crew};
+use crate::exploring::{Explored, explore};
 use crate::merging::{merged, put_in_order};
 use bv_passes::Kit;
+use ct_outside::Gate;
 use ct_pairs::Job;
 use ct_report::Outcome;
 use ct_rows::Row;
+use query_cache::{Cache, SharedCache};
 use std::alloc::{AllocError, Global};
+use std::sync::Wait;
+use std::thread::Threads;
 
-/// Checks a job by one worker, which waits for nobody: explores every control path with the passes of a kit, of which
-/// there are at most `rel_step::MOST_PASSES`, and puts together what was found.
-pub fn check_alone(alloc: Global, job: &Job, kit: &mut Kit) -> Result<Outcome, AllocError>
-    requires few { length kit.old.items ≤ MOST_PASSES }
+// Puts together what was explored.
+fn outcome_of(job: &Job, explored: Explored) -> Result<Outcome, AllocError>
+    requires { IsExploring job.now explored [] }
     ensures { IfOk result (IsCheckOf job.now) }
 {
-    let explored = explore(alloc, job, kit)?;
+    let _job = job;
     let sites = merged(explored.found)?;
     let places = put_in_order(explored.listed)?;
     Ok(Outcome {
@@ -26,4 +32,42 @@ pub fn check_alone(alloc: Global, job: &Job, kit: &mut Kit) -> Result<Outcome, A
         doubts: explored.doubts,
         paths: explored.ends,
     })
+}
+
+/// Checks a job by one worker, which waits for nobody: explores every control path with the passes of a kit, of which
+/// there are at most `rel_step::MOST_PASSES`, and puts together what was found.
+pub fn check_alone(alloc: Global, job: &Job, kit: &mut Kit) -> Result<Outcome, AllocError>
+    requires few { length kit.old.items ≤ MOST_PASSES }
+    ensures { IfOk result (IsCheckOf job.now) }
+{
+    let mut cache = Cache::new(alloc)?;
+    let explored = explore(alloc, job, &mut cache, kit, Vec::new(alloc))?;
+    let outcome = outcome_of(job, explored)?;
+    Ok(outcome)
+}
+
+/// Checks a job by up to `MOST_WORKERS` workers, each with a kit of its own. They share a pool of control paths and a
+/// cache of settled questions, and call the gate whenever they begin a path. Then the tree is put together from their
+/// records; a path without one is run, with no passes.
+pub fn check_job<R: Threads + Wait + Sync, G: Gate>(
+    rt: &R,
+    alloc: Global,
+    job: &Job,
+    workers: u32,
+    kits: Vec<Kit>,
+    cache: &SharedCache,
+    gate: &G,
+) -> Result<Outcome, AllocError>
+    requires some_workers { 1 ≤ workers }
+    requires few_workers { workers ≤ MOST_WORKERS }
+    requires enough { workers ≤ vec_len kits }
+    requires few { All HasFewPasses kits.items }
+    ensures { IfOk result (IsCheckOf job.now) }
+{
+    let records = records_of_crew(rt, alloc, job, workers, kits, cache, gate)?;
+    let mut own = Cache::new(alloc)?;
+    let mut kit = Vec::new(alloc);
+    let explored = explore(alloc, job, &mut own, &mut kit, records)?;
+    let outcome = outcome_of(job, explored)?;
+    Ok(outcome)
 }

@@ -2,7 +2,16 @@
 #![tactic(auto)]
 
 mod checking;
+mod crew;
 mod exploring;
+mod member;
 mod merging;
+mod records;
+mod telling;
+mod working;
 
-pub use checking::check_alone;
+pub use checking::{check_alone, check_job};
+pub use crew::MOST_WORKERS;
+
+#[cfg(test)]
+mod tests;

@@ -9,7 +9,7 @@ told-requires-clause-walk g c = (subst (IsCome c.args.job.now c.loop-record.walk
 pub told-requires-clause-told : goal.told-requires-clause-told
 told-requires-clause-told g c =
     let t = subst (IsCome c.args.job.now c.loop-record.walk.course (doubts_of c.loop-record.walk) (turns_left c.args.job.now c.loop-record.walk)) c.in-Ask.is c.in_ok-record.ensures.come in
-    told_right c.args.job.now c.in-Ask.asking c.in-Ask.question c.told_by-told.result t.1 c.told_by-told.ensures.right
+    told_right c.args.job.now c.in-Ask.asking c.in-Ask.question c.in_ok-told-in-Ask.told t.1 c.in_ok-told-in-Ask.ensures.right
 
 pub returns-in-Done-clause-spent : goal.returns-in-Done-clause-spent
 returns-in-Done-clause-spent g c =
@@ -20,4 +20,4 @@ pub loop-record-preserved : goal.loop-record-preserved
 loop-record-preserved g c =
     let i = c.loop-record.invariant in
     let t = subst (IsCome c.args.job.now c.loop-record.walk.course (doubts_of c.loop-record.walk) (turns_left c.args.job.now c.loop-record.walk)) c.in-Ask.is c.in_ok-record.ensures.come in
-    (c.in_ok-walk-in-Ask.ensures.later.is_walk, c.in_ok-walk-in-Ask.ensures.idle, c.in_ok-walk-in-Ask.ensures.later.same_path ∙ t.0.same_path ∙ i.2, c.in_ok-walk-in-Ask.ensures.logs c.args.job.now.budget (t.2 c.args.job.now.budget i.3) c.told_by-told.ensures.spent, c.go.ensures.passes ∙ i.4)
+    (c.in_ok-walk-in-Ask.ensures.later.is_walk, c.in_ok-walk-in-Ask.ensures.idle, c.in_ok-walk-in-Ask.ensures.later.same_path ∙ t.0.same_path ∙ i.2, c.in_ok-walk-in-Ask.ensures.logs c.args.job.now.budget (t.2 c.args.job.now.budget i.3) c.in_ok-told-in-Ask.ensures.spent, c.go.ensures.passes ∙ i.4)

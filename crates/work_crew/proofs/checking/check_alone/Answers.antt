@@ -1,8 +1,7 @@
-use Rattle.std.proofs.Common.{refl}
-use Rattle.work_crew.proofs.Merges.{check_is}
+use Rattle.std.proofs.Common.{[]}
+use Rattle.std.proofs.lemmas.List.Elements.{All-nil, All-same}
+use Rattle.work_crew.specs.TrueRecords.{IsTrueRecord}
 use Rattle.work_crew.proofs.checking.check_alone.Goals as goal
 
-pub returns : goal.returns
-returns g c =
-    check_is c.args.job.now c.in_ok-explored.explored _ c.in_ok-explored.ensures.exploring (rw c.from_vec.ensures c.in_ok-sites.ensures)
-    (rw c.from_vec-2.ensures c.in_ok-places.ensures.permutation) (rw c.from_vec-2.ensures c.in_ok-places.ensures.sorted) refl refl
+pub explore-requires-clause-records : goal.explore-requires-clause-records
+explore-requires-clause-records g c = All-same (IsTrueRecord c.args.job.now) _ [] c.new-2.ensures.items (All-nil (IsTrueRecord c.args.job.now))
