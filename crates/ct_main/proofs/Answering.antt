@@ -73,8 +73,8 @@ checked command contents job outcome found job_is made is = record { job = job; 
 -- what a task found is the outcome of the command's job
 check_of_task : (command : Command) (contents : List (List ℕ)) (task : Task) (made : Made) (found : Outcome) → IsTaskOf command contents task → IsDone task made → made.outcome ≡ Some found → IsCheck command contents found
 check_of_task (Byte binary entry bound) contents (tasks.Byte job) made found task_is done is = checked (Byte binary entry bound) contents job made.outcome found task_is done.0 is
-check_of_task (Check binary policy bound workers budget targets) contents (tasks.Check job) made found task_is done is =
-    checked (Check binary policy bound workers budget targets) contents job made.outcome found task_is done.0 is
+check_of_task (Check binary policy bound workers budget targets) contents (tasks.Check job crew) made found task_is done is =
+    checked (Check binary policy bound workers budget targets) contents job made.outcome found task_is.0 done.0 is
 check_of_task (Replay binary policy name) contents (tasks.Replay job pair) made found task_is done is = absurd (let none = done.0 in cc)
 check_of_task (Trace binary entry bound) contents (tasks.Trace job) made found task_is done is = absurd (let none = done.0 in cc)
 check_of_task (Listing binary) contents (tasks.List elf) made found task_is done is = absurd (let none = done.0 in cc)
@@ -96,8 +96,8 @@ text_of_task : (command : Command) (contents : List (List ℕ)) (task : Task) (m
 text_of_task (Byte binary entry bound) contents (tasks.Byte job) made text task_is done is =
     reported (Byte binary entry bound) contents job made.outcome made.status text task_is done.0
     (of_text made.text text (λ t. IsSomeAnd made.outcome (λ found. IsReported job found made.status t)) is done.1)
-text_of_task (Check binary policy bound workers budget targets) contents (tasks.Check job) made text task_is done is =
-    reported (Check binary policy bound workers budget targets) contents job made.outcome made.status text task_is done.0
+text_of_task (Check binary policy bound workers budget targets) contents (tasks.Check job crew) made text task_is done is =
+    reported (Check binary policy bound workers budget targets) contents job made.outcome made.status text task_is.0 done.0
     (of_text made.text text (λ t. IsSomeAnd made.outcome (λ found. IsReported job found made.status t)) is done.1)
 text_of_task (Replay binary policy name) contents (tasks.Replay job pair) made text task_is done is =
     (done.0, record { job = job; job_is = task_is.0; pair = pair; pair_is = task_is.1; comparison = of_text made.text text (IsComparison job pair made.status) is done.1 })

@@ -5,6 +5,8 @@ use Rattle.elf_load.specs.Layout.{FitsMemory, segment_extents}
 use Rattle.rv_image.specs.Loading.{cells_of}
 use Rattle.ct_outside.specs.declared.reading.ReadEnd.{ReadEnd}
 use Rattle.ct_outside.specs.declared.reading.ReadEnd.TheVariants as ends
+use Rattle.ct_lines.specs.Words.{IsWithin}
+use Rattle.ct_lines.specs.declared.command.TheConstants.{MOST_WORKERS}
 use Rattle.ct_lines.specs.declared.command.Command.{Command}
 use Rattle.ct_lines.specs.declared.command.Command.TheVariants.{Byte, Check, Replay, Trace, List as Listing}
 use Rattle.ct_pairs.specs.declared.job.Job.{Job}
@@ -68,7 +70,7 @@ pub record HasOneSecret (job : Job) : Type 0 where
 -- what a task needs
 abbrev pub CanDo : Task → Type 0
 CanDo (tasks.Byte job) = HasOneSecret job
-CanDo (tasks.Check job) = Unit {0}
+CanDo (tasks.Check job workers) = IsWithin 1 MOST_WORKERS workers
 CanDo (tasks.Replay job pair) = IsPair job pair
 CanDo (tasks.Trace job) = HasOneSecret job
 CanDo (tasks.List elf) = FitsMemory (segment_extents elf)
@@ -76,8 +78,8 @@ CanDo (tasks.List elf) = FitsMemory (segment_extents elf)
 -- the task of a command and of what its files hold
 abbrev pub IsTaskOf : Command → List (List ℕ) → Task → Type 0
 IsTaskOf (Byte binary entry bound) contents (tasks.Byte job) = IsJobFor (Byte binary entry bound) contents job
-IsTaskOf (Check binary policy bound workers budget targets) contents (tasks.Check job) =
-    IsJobFor (Check binary policy bound workers budget targets) contents job
+IsTaskOf (Check binary policy bound workers budget targets) contents (tasks.Check job crew) =
+    IsJobFor (Check binary policy bound workers budget targets) contents job × (crew ≡ workers)
 IsTaskOf (Replay binary policy name) contents (tasks.Replay job pair) =
     IsJobFor (Replay binary policy name) contents job × IsPairFor contents job pair
 IsTaskOf (Trace binary entry bound) contents (tasks.Trace job) = IsJobFor (Trace binary entry bound) contents job
@@ -106,7 +108,7 @@ IsToldOf job made = IfOk made.text (λ text. IsSomeAnd made.outcome (λ outcome.
 -- what came of a task: the outcome of a check, and the whole text with its status, unless memory was wanted
 abbrev pub IsDone : Task → Made → Type 0
 IsDone (tasks.Byte job) made = IfSome made.outcome (IsByteCheckOf job) × IsToldOf job made
-IsDone (tasks.Check job) made = IfSome made.outcome (IsCheckOf job) × IsToldOf job made
+IsDone (tasks.Check job workers) made = IfSome made.outcome (IsCheckOf job) × IsToldOf job made
 IsDone (tasks.Replay job pair) made = (made.outcome ≡ None) × IfOk made.text (IsComparison job pair made.status)
 IsDone (tasks.Trace job) made = (made.outcome ≡ None) × IfOk made.text (λ text. (made.status ≡ 0) × (text ≡ trace_of job))
 IsDone (tasks.List elf) made =

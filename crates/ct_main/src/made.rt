@@ -1,12 +1,15 @@
 //! What came of a task, before anything is written.
 
-ghost use Rattle.std.specs.Prelude.{◌≡◌, ◌≤◌, [], length, None, Some, IfOk};
+ghost use Rattle.std.specs.Prelude.{◌≡◌, ◌≤◌, [], length, All, None, Some, IfOk};
 ghost use Rattle.elf_load.specs.Layout.{FitsMemory, segment_extents};
 ghost use Rattle.rv_image.specs.Loading.{cells_of};
 ghost use Rattle.ct_pairs.specs.Pair.{IsPair};
 ghost use Rattle.ct_pairs.specs.Covered.{AreTrueSites};
 ghost use Rattle.ct_listing.specs.List.{list_of};
 ghost use Rattle.ct_report.specs.Report.{report_of};
+ghost use Rattle.ct_report.specs.Outcomes.{IsCheckOf};
+ghost use Rattle.ct_lines.specs.Words.{IsWithin};
+ghost use Rattle.ct_lines.specs.declared.command.TheConstants.{MOST_WORKERS};
 ghost use Rattle.rel_step.specs.declared.simplifying.TheConstants.{MOST_PASSES};
 ghost use Rattle.ct_main.specs.Outcomes.{IsByteCheckOf};
 ghost use Rattle.ct_main.specs.Status.{replay_status as replay_code};
@@ -16,14 +19,18 @@ use crate::finished::finding_status;
 use crate::task::Task;
 use bv_passes::Kit;
 use ct_listing::{list_text, trace_text};
+use ct_outside::Gate;
 use ct_pairs::{Job, Pair, byte_check};
 use ct_report::{Outcome, report_text, sites_law};
 use ct_rows::Text;
 use elf_load::Elf;
 use pair_replay::{Replayed, replay, replay_text};
+use query_cache::SharedCache;
 use rv_image::Image;
 use std::alloc::{AllocError, Global};
-use work_crew::check_alone;
+use std::sync::Wait;
+use std::thread::Threads;
+use work_crew::check_job;
 
 /// What came of a task, before anything is written.
 #[derive(Debug, Drop)]
@@ -43,6 +50,24 @@ fn check_pairs(alloc: Global, job: &Job) -> Result<Outcome, AllocError>
 {
     let table = byte_check(alloc, job)?;
     Ok(Outcome::of_table(alloc, table))
+}
+
+/// Checks a job by so many workers, which share a cache of settled questions.
+fn check_shared<R: Threads + Wait + Sync, G: Gate>(
+    rt: &R,
+    alloc: Global,
+    job: &Job,
+    workers: u32,
+    kits: Vec<Kit>,
+    gate: &G,
+) -> Result<Outcome, AllocError>
+    requires workers { IsWithin 1 MOST_WORKERS workers }
+    requires enough { MOST_WORKERS ≤ length kits.items }
+    requires few { All (λ kit. length kit.items ≤ MOST_PASSES) kits.items }
+    ensures { IfOk result (IsCheckOf job.now) }
+{
+    let cache = SharedCache::new(alloc)?;
+    check_job(rt, alloc, job, workers, kits, &cache, gate)
 }
 
 /// The whole report of a job and of the outcome of its check.
@@ -111,12 +136,21 @@ impl Made {
         }
     }
 
-    /// Checks a job with the passes of a kit and makes the report.
-    fn by_check(alloc: Global, job: &Job, kit: &mut Kit) -> Made
-        requires { length kit.old.items ≤ MOST_PASSES }
-        ensures { IsDone (Task.Check job.now) result }
+    /// Checks a job by so many workers, the passes of a kit for each, and makes the report.
+    fn by_check<R: Threads + Wait + Sync, G: Gate>(
+        rt: &R,
+        alloc: Global,
+        job: &Job,
+        workers: u32,
+        kits: Vec<Kit>,
+        gate: &G,
+    ) -> Made
+        requires workers { IsWithin 1 MOST_WORKERS workers }
+        requires enough { MOST_WORKERS ≤ length kits.items }
+        requires few { All (λ kit. length kit.items ≤ MOST_PASSES) kits.items }
+        ensures { IsDone (Task.Check job.now workers) result }
     {
-        match check_alone(alloc, job, kit) {
+        match check_shared(rt, alloc, job, workers, kits, gate) {
             Ok(outcome) => Made::of_outcome(alloc, job, outcome),
             Err(error) => Made::without_outcome(0, Err(error)),
         }
@@ -137,14 +171,21 @@ impl Made {
     }
 
     /// Does a task and makes its whole text.
-    pub(crate) fn by_task(alloc: Global, task: Task, kit: &mut Kit) -> Made
+    pub(crate) fn by_task<R: Threads + Wait + Sync, G: Gate>(
+        rt: &R,
+        alloc: Global,
+        task: Task,
+        kits: Vec<Kit>,
+        gate: &G,
+    ) -> Made
         requires can { CanDo task }
-        requires few { length kit.old.items ≤ MOST_PASSES }
+        requires enough { MOST_WORKERS ≤ length kits.items }
+        requires few { All (λ kit. length kit.items ≤ MOST_PASSES) kits.items }
         ensures { IsDone task result }
     {
         match task {
             Task::Byte(job) => Made::by_pairs(alloc, &job),
-            Task::Check(job) => Made::by_check(alloc, &job, kit),
+            Task::Check(job, workers) => Made::by_check(rt, alloc, &job, workers, kits, gate),
             Task::Replay(job, pair) => Made::by_replay(alloc, &job, &pair),
             Task::Trace(job) => Made::without_outcome(0, trace_text(alloc, &job)),
             Task::List(elf) => Made::without_outcome(0, list(alloc, elf)),

@@ -124,9 +124,9 @@ pub fn prepare<F: Shelf>(alloc: Global, shelf: &mut F, command: &Command) -> Res
             binary,
             policy,
             bound,
+            workers,
             budget,
             targets,
-            ..
         } => {
             let options = Options {
                 bound: *bound,
@@ -134,7 +134,7 @@ pub fn prepare<F: Shelf>(alloc: Global, shelf: &mut F, command: &Command) -> Res
                 targets: *targets,
             };
             let job = policy_job(alloc, shelf, binary, policy, &options);
-            Ok(Task::Check(job?))
+            Ok(Task::Check(job?, *workers))
         }
         Command::Replay {
             binary,

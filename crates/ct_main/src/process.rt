@@ -1,7 +1,8 @@
 //! The program as a process: over the real files, the real output and standard error.
 
-ghost use Rattle.std.specs.Prelude.{◌≡◌, ◌≤◌, length, slice_get, IfOk, IsSomeAnd};
+ghost use Rattle.std.specs.Prelude.{◌≡◌, ◌≤◌, length, All, IfOk};
 ghost use Rattle.std.specs.Process.{exit_status};
+ghost use Rattle.ct_lines.specs.declared.command.TheConstants.{MOST_WORKERS};
 ghost use Rattle.rel_step.specs.declared.simplifying.TheConstants.{MOST_PASSES};
 ghost use Rattle.ct_main.specs.Status.{HasStatus};
 
@@ -10,11 +11,14 @@ use crate::finished::Finished;
 use crate::program::ctrel;
 use crate::refusal::Refusal;
 use bv_passes::{Algebra, Kit, KnownBits, MergeBytes, Shifts, Sums};
-use ct_outside::{RealShelf, RealSink};
+use ct_lines::MOST_WORKERS;
+use ct_outside::{Gate, RealShelf, RealSink};
 use std::alloc::AllocError;
 use std::env;
 use std::io::ErrorKind;
 use std::process::ExitCode;
+use std::sync::Wait;
+use std::thread::Threads;
 
 /// The words after the program's name. A word that isn't UTF-8 is no word of a command.
 pub fn words_of(rt: &HostRuntime) -> Result<Vec<String>, Refusal> {
@@ -27,9 +31,15 @@ pub fn words_of(rt: &HostRuntime) -> Result<Vec<String>, Refusal> {
 }
 
 /// Runs the program on the words that the process was given, over the real files and the real
-/// output, with these kits.
-pub fn run_with(rt: &HostRuntime, kits: Vec<Kit>) -> Finished
-    requires { IsSomeAnd (slice_get kits.items 0) (λ kit. length kit.items ≤ MOST_PASSES) }
+/// output, with these kits, the threads of this handle and this gate.
+pub fn run_with<R: Threads + Wait + Sync, G: Gate>(
+    rt: &HostRuntime,
+    threads: &R,
+    kits: Vec<Kit>,
+    gate: &G,
+) -> Finished
+    requires enough { MOST_WORKERS ≤ length kits.items }
+    requires few { All (λ kit. length kit.items ≤ MOST_PASSES) kits.items }
     ensures { HasStatus result.outcome result.refusal result.status }
 {
     let words = match words_of(rt) {
@@ -41,31 +51,45 @@ pub fn run_with(rt: &HostRuntime, kits: Vec<Kit>) -> Finished
         Err(error) => return Finished::refused(Refusal::from(error)),
     };
     let mut out = RealSink::new(rt);
-    ctrel(rt.alloc(), words.as_slice(), &mut shelf, &mut out, kits)
+    ctrel(
+        threads,
+        rt.alloc(),
+        words.as_slice(),
+        &mut shelf,
+        &mut out,
+        kits,
+        gate,
+    )
 }
 
-/// Makes a kit of all passes, and runs the program with it.
-fn run_with_passes(rt: &HostRuntime) -> Result<Finished, AllocError>
+/// Makes a kit of all passes for each worker that there may be, and runs the program with them.
+fn run_with_passes<R: Threads + Wait + Sync, G: Gate>(
+    rt: &HostRuntime,
+    threads: &R,
+    gate: &G,
+) -> Result<Finished, AllocError>
     ensures { IfOk result (λ finished. HasStatus finished.outcome finished.refusal finished.status) }
 {
     let alloc = rt.alloc();
-    let mut kit: Kit = Vec::new(alloc);
-    kit.push(Box::new(alloc, KnownBits::new(alloc)?)?)?;
-    kit.push(Box::new(alloc, Algebra::new(alloc)?)?)?;
-    kit.push(Box::new(alloc, MergeBytes::new(alloc)?)?)?;
-    kit.push(Box::new(alloc, Shifts::new(alloc)?)?)?;
-    kit.push(Box::new(alloc, Sums::new(alloc)?)?)?;
     let mut kits = Vec::new(alloc);
-    kits.push(kit)?;
-    Ok(run_with(rt, kits))
+    for _ in 0..MOST_WORKERS {
+        let mut kit: Kit = Vec::new(alloc);
+        kit.push(Box::new(alloc, KnownBits::new(alloc)?)?)?;
+        kit.push(Box::new(alloc, Algebra::new(alloc)?)?)?;
+        kit.push(Box::new(alloc, MergeBytes::new(alloc)?)?)?;
+        kit.push(Box::new(alloc, Shifts::new(alloc)?)?)?;
+        kit.push(Box::new(alloc, Sums::new(alloc)?)?)?;
+        kits.push(kit)?;
+    }
+    Ok(run_with(rt, threads, kits, gate))
 }
 
 /// Runs the program on the words that the process was given, over the real files and the real
-/// output, with a kit of all passes.
-pub fn run(rt: &HostRuntime) -> Finished
+/// output, with kits of all passes, the threads of this handle and this gate.
+pub fn run<R: Threads + Wait + Sync, G: Gate>(rt: &HostRuntime, threads: &R, gate: &G) -> Finished
     ensures { HasStatus result.outcome result.refusal result.status }
 {
-    match run_with_passes(rt) {
+    match run_with_passes(rt, threads, gate) {
         Ok(finished) => finished,
         Err(error) => Finished::refused(Refusal::from(error)),
     }

@@ -8,8 +8,8 @@ use elf_load::Elf;
 pub enum Task {
     /// Check the job of one secret byte by running all its pairs, and report what was found.
     Byte(Job),
-    /// Check the job and report what was found.
-    Check(Job),
+    /// Check the job by so many workers and report what was found.
+    Check(Job, u32),
     /// Run both starts of the pair and show how the runs compare.
     Replay(Job, Pair),
     /// Show each step of the job's run with byte 0.

@@ -1,10 +1,13 @@
 //! What no clause says: the lines on standard error, and that a call succeeds.
 
-ghost use Rattle.std.specs.Prelude.{◌≡◌, [], IfOk};
+ghost use Rattle.std.specs.Prelude.{◌≡◌, ◌≤◌, [], length, All, IfOk};
+ghost use Rattle.ct_lines.specs.declared.command.TheConstants.{MOST_WORKERS};
+ghost use Rattle.rel_step.specs.declared.simplifying.TheConstants.{MOST_PASSES};
 
 use super::*;
-use ct_lines::usage_text;
-use ct_outside::{MemoryShelf, MemorySink};
+use bv_passes::Kit;
+use ct_lines::{MOST_WORKERS, usage_text};
+use ct_outside::{MemoryShelf, MemorySink, OpenGate};
 use ct_policy::PolicyRefusal;
 use elf_load::ElfRefusal;
 use std::alloc::{AllocError, Global};
@@ -124,6 +127,18 @@ fn shelf(alloc: Global, pair: &str) -> Result<MemoryShelf, AllocError>
     MemoryShelf::new(alloc, files, vec![in alloc; NEVER]?, 40)
 }
 
+/// A kit without passes for each worker that there may be.
+fn without_passes(alloc: Global) -> Result<Vec<Kit>, AllocError>
+    ensures enough { IfOk result (λ kits. MOST_WORKERS ≤ length kits.items) }
+    ensures few { IfOk result (λ kits. All (λ kit. length kit.items ≤ MOST_PASSES) kits.items) }
+{
+    let mut kits = Vec::new(alloc);
+    for _ in 0..MOST_WORKERS {
+        kits.push(Vec::new(alloc))?;
+    }
+    Ok(kits)
+}
+
 #[test]
 fn pairs_are_replayed_or_refused(rt: HostRuntime) -> Result<(), Fail> {
     let alloc = rt.alloc();
@@ -156,8 +171,16 @@ fn pairs_are_replayed_or_refused(rt: HostRuntime) -> Result<(), Fail> {
     ] {
         let mut shelf = shelf(alloc, pair)?;
         let mut out = errors(alloc, NEVER)?;
-        let kits = vec![in alloc; Vec::new(alloc)]?;
-        let finished = ctrel(alloc, words.as_slice(), &mut shelf, &mut out, kits);
+        let kits = without_passes(alloc)?;
+        let finished = ctrel(
+            &rt,
+            alloc,
+            words.as_slice(),
+            &mut shelf,
+            &mut out,
+            kits,
+            &OpenGate,
+        );
         assert_eq!(rt; finished.status, status, "{pair:?}");
         assert_eq!(rt; out.written(), text.as_bytes(), "{pair:?}");
         let mut told = errors(alloc, NEVER)?;

@@ -22,7 +22,7 @@ use Rattle.ct_trace.specs.Showing.{CanShow, IsTraceOf, IsDelivered}
 
 -- the task of a command that is shown can be shown
 can_show : (reading : Reading) (command : Command) (task : Task) → IsShown command → IsPrepared reading command task → CanShow task
-can_show reading (Check binary policy bound workers budget targets) (tasks.Check job) shown prepared = tt
+can_show reading (Check binary policy bound workers budget targets) (tasks.Check job crew) shown prepared = tt
 can_show reading (Replay binary policy pair) (tasks.Replay job start) shown prepared = prepared.passed.says.1.is_pair
 can_show reading (Byte binary entry bound) task shown prepared = absurd shown
 can_show reading (Trace binary entry bound) task shown prepared = absurd shown
@@ -53,7 +53,7 @@ refused_answer words reading writing refusal why nothing =
 
 -- the trace of a task is the one for which the command asks
 trace_of_task : (command : Command) (contents : List (List ℕ)) (task : Task) (text : List ℕ) → IsTaskOf command contents task → IsTraceOf task text → IsTraceFor command contents text
-trace_of_task (Check binary policy bound workers budget targets) contents (tasks.Check job) text task_is trace_is = record { job = job; job_is = task_is; text_is = trace_is }
+trace_of_task (Check binary policy bound workers budget targets) contents (tasks.Check job crew) text task_is trace_is = record { job = job; job_is = task_is.0; text_is = trace_is }
 trace_of_task (Replay binary policy name) contents (tasks.Replay job pair) text task_is trace_is =
     record { job = job; job_is = task_is.0; pair = pair; pair_is = task_is.1; text_is = trace_is }
 trace_of_task command contents (tasks.Byte job) text task_is trace_is = absurd trace_is

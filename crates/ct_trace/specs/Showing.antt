@@ -11,13 +11,13 @@ use Rattle.ct_trace.specs.Traces.{zero_trace, left_trace}
 
 -- what the showing of a task needs: it is that of a check or of a replay
 abbrev pub CanShow : Task → Type 0
-CanShow (Check job) = Unit {0}
+CanShow (Check job workers) = Unit {0}
 CanShow (Replay job pair) = IsPair job pair
 CanShow _ = ⊥
 
 -- the trace of a task
 abbrev pub IsTraceOf : Task → List ℕ → Type 0
-IsTraceOf (Check job) text = text ≡ zero_trace job
+IsTraceOf (Check job workers) text = text ≡ zero_trace job
 IsTraceOf (Replay job pair) text = text ≡ left_trace job pair
 IsTraceOf _ text = ⊥
 

@@ -49,7 +49,7 @@ pub(crate) fn show_task(alloc: Global, task: Task) -> Result<Text, AllocError>
     ensures { IfOk result (IsTraceOf task) }
 {
     match task {
-        Task::Check(job) => zero_trace_text(alloc, &job),
+        Task::Check(job, _) => zero_trace_text(alloc, &job),
         Task::Replay(job, pair) => {
             start_trace_text(alloc, &job, pair.shared.as_slice(), pair.left.as_slice())
         }

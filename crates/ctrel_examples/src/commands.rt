@@ -2,7 +2,7 @@
 //! `examples/make.py`; `cut.elf` is `return.elf` without its last byte.
 
 /// Commands whose text is written.
-pub const WRITTEN: [&str; 40] = [
+pub const WRITTEN: [&str; 46] = [
     "byte decode_table.elf 0x10000 100",
     "byte decode_branch.elf 0x10000 100",
     "byte decode_constant.elf 0x10000 100",
@@ -43,6 +43,12 @@ pub const WRITTEN: [&str; 40] = [
     "replay secret_branch.elf one_secret.toml different.pair",
     "replay secret_branch.elf one_secret.toml same.pair",
     "check --workers 2 decode_table.elf --bound 3 decode_table.toml --budget 0 --targets 1",
+    "check return.elf one_secret.toml --workers 16",
+    "check comparison.elf buffers.toml --budget 0 --workers 16",
+    "check early_comparison.elf buffers.toml --workers 2",
+    "check early_comparison.elf buffers.toml --workers 16",
+    "check needless_branch.elf one_secret.toml --budget 0 --workers 2",
+    "check needless_branch.elf one_secret.toml --budget 0 --workers 16",
 ];
 
 /// Commands that are refused.

@@ -3,12 +3,21 @@
 
 mod commands;
 mod faults;
+mod sharing;
 
+ghost use Rattle.std.specs.Prelude.{◌≤◌, length, All, IfOk};
+ghost use Rattle.ct_lines.specs.declared.command.TheConstants.{MOST_WORKERS};
+ghost use Rattle.rel_step.specs.declared.simplifying.TheConstants.{MOST_PASSES};
+
+use bv_passes::Kit;
+use ct_lines::MOST_WORKERS;
 use ct_main::{Finished, ctrel, tell};
-use ct_outside::{RealShelf, RealSink};
+use ct_outside::{OpenGate, RealShelf, RealSink};
 use std::alloc::{AllocError, Global};
 use std::io;
 use std::process::ExitCode;
+use std::sync::Wait;
+use std::thread::Threads;
 
 /// The words of a command.
 fn words_of(alloc: Global, command: &str) -> Result<Vec<String>, AllocError> {
@@ -19,6 +28,18 @@ fn words_of(alloc: Global, command: &str) -> Result<Vec<String>, AllocError> {
     Ok(words)
 }
 
+/// A kit without passes for each worker that there may be.
+fn without_passes(alloc: Global) -> Result<Vec<Kit>, AllocError>
+    ensures enough { IfOk result (λ kits. MOST_WORKERS ≤ length kits.items) }
+    ensures few { IfOk result (λ kits. All (λ kit. length kit.items ≤ MOST_PASSES) kits.items) }
+{
+    let mut kits = Vec::new(alloc);
+    for _ in 0..MOST_WORKERS {
+        kits.push(Vec::new(alloc))?;
+    }
+    Ok(kits)
+}
+
 /// Shows what a call says on standard error, here on the output, and its status.
 fn show_end(rt: &HostRuntime, finished: &Finished) -> io::Result<()> {
     tell(rt.alloc(), finished, &mut RealSink::new(rt));
@@ -26,34 +47,37 @@ fn show_end(rt: &HostRuntime, finished: &Finished) -> io::Result<()> {
 }
 
 /// Runs a command over the real files and the real output, without passes.
-fn run(rt: &HostRuntime, command: &str) -> io::Result<()> {
+fn run<R: Threads + Wait + Sync>(rt: &HostRuntime, threads: &R, command: &str) -> io::Result<()> {
     println!(rt; "$ ctrel {command}")?;
     let words = words_of(rt.alloc(), command)?;
     let mut shelf = RealShelf::new(rt.alloc(), rt)?;
-    let kits = vec![in rt.alloc(); Vec::new(rt.alloc())]?;
+    let kits = without_passes(rt.alloc())?;
     let finished = ctrel(
+        threads,
         rt.alloc(),
         words.as_slice(),
         &mut shelf,
         &mut RealSink::new(rt),
         kits,
+        &OpenGate,
     );
     show_end(rt, &finished)
 }
 
 /// Runs all commands.
-fn run_all(rt: &HostRuntime) -> io::Result<()> {
+fn run_all<R: Threads + Wait + Sync>(rt: &HostRuntime, threads: &R) -> io::Result<()> {
     for command in commands::WRITTEN {
-        run(rt, command)?;
+        run(rt, threads, command)?;
     }
     for command in commands::REFUSED {
-        run(rt, command)?;
+        run(rt, threads, command)?;
     }
-    faults::run_all(rt)
+    faults::run_all(rt, threads)?;
+    sharing::run_all(rt, threads)
 }
 
 fn main(rt: HostRuntime) -> ExitCode {
-    match run_all(&rt) {
+    match run_all(&rt, &rt) {
         Ok(()) => ExitCode::from(0),
         Err(_) => ExitCode::from(1),
     }

@@ -2,9 +2,10 @@
 #![tactic(auto)]
 
 use ct_main::{finish, run};
+use ct_outside::OpenGate;
 use std::process::ExitCode;
 
 fn main(rt: HostRuntime) -> ExitCode {
-    let finished = run(&rt);
+    let finished = run(&rt, &rt, &OpenGate);
     finish(&rt, &finished)
 }

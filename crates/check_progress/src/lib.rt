@@ -1,0 +1,6 @@
+//! How far a check is, shown on a terminal.
+#![tactic(auto)]
+
+mod progress;
+
+pub use progress::Progress;
