@@ -1,0 +1,12 @@
+pub mod BlockLaws
+pub mod CodeLaws
+pub mod Decoded
+pub mod FileReading
+pub mod FileShape
+pub mod FileRules
+pub mod FileSymbols
+pub mod FileLoading
+pub mod PolicyText
+pub mod PolicyDocument
+pub mod PolicyRules
+pub mod Acceptance
