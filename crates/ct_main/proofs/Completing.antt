@@ -1,47 +1,27 @@
 -- Each cause that stands has its answer, by how the phases of the command ended.
-use Rattle.std.proofs.Common.{◌≡◌, ◌∙◌, ◌≤◌, ℕ, List, [], ◌∷◌, length, Option, None, Some, IfSome, IsSomeAnd, refl, sym, ap, subst, inl, inr, arith, append-nil}
+use Rattle.std.proofs.Common.{◌≡◌, ◌∙◌, ◌≤◌, ℕ, List, [], ◌∷◌, length, Option, None, Some, IfSome, refl, sym, subst, inl, inr, arith, append-nil}
 use Rattle.std.specs.List.{last_or}
-use Rattle.std.specs.Option.{option_map_or}
 use Rattle.ct_outside.specs.declared.reading.TheConstants.{LONGEST}
 use Rattle.ct_lines.specs.declared.command.Command.{Command}
 use Rattle.ct_main.specs.declared.refusal.Refusal.{Refusal}
-use Rattle.ct_main.specs.declared.refusal.Refusal.TheVariants.{Words, Long, Later, Memory, ReadFault}
+use Rattle.ct_main.specs.declared.refusal.Refusal.TheVariants.{Words, Long, Memory, ReadFault}
 use Rattle.ct_main.specs.Outside.{Reading, Writing, AskedNothing, SinkFailed}
 use Rattle.ct_main.specs.Phases.{Phase, phases_of, held, phases_refusal, refusal_of}
-use Rattle.ct_main.specs.Reads.{AskedFor, WasRefused, StoppedLong, StoppedCutOff, Accepted, EndsCommand}
+use Rattle.ct_main.specs.Reads.{AskedFor, WasRefused, StoppedLong, StoppedCutOff, Accepted, EndsPhases}
 use Rattle.ct_main.specs.Complete.{OrMemory, IsTold, IsComplete}
 use Rattle.ct_main.proofs.PhaseLemmas.{told_refused, told_long, told_accepted}
 
--- what is asked of the words is asked of the command
-of_words : (words : Option Command) (command : Command) (P : Command → Type 0) → words ≡ Some command → IsSomeAnd words P → P command
-of_words None command P words_are holds = absurd holds
-of_words (Some other) command P words_are holds = let same : other ≡ command = cc in subst P same holds
-
--- the first refusal of a command that is built is that of its phases
-told_of : (words : Option Command) (reading : Reading) (command other : Command) (phases : List Phase) (known : List ℕ → Option (List ℕ)) (expected : Option Refusal) → words ≡ Some command → phases_of command ≡ Some phases → IsTold words reading other known expected → phases_refusal [] phases (held known phases) ≡ expected
-told_of words reading command other phases known expected words_are built told =
+-- the first refusal of a command is that of its phases
+told_of : (words : Option Command) (reading : Reading) (command other : Command) (known : List ℕ → Option (List ℕ)) (expected : Option Refusal) → words ≡ Some command → IsTold words reading other known expected → phases_refusal [] (phases_of command) (held known (phases_of command)) ≡ expected
+told_of words reading command other known expected words_are told =
     let from : words ≡ Some other = told.words_are in
     let same : other ≡ command = cc in
-    let first = subst (λ c. refusal_of c known ≡ expected) same told.first in
-    sym (ap (λ p. option_map_or (λ all. phases_refusal [] all (held known all)) p (Some Later)) built) ∙ first
-
--- that of a command that isn't built is that
-told_later : (words : Option Command) (reading : Reading) (command other : Command) (known : List ℕ → Option (List ℕ)) (expected : Option Refusal) → words ≡ Some command → phases_of command ≡ None → IsTold words reading other known expected → Some Later ≡ expected
-told_later words reading command other known expected words_are unbuilt told =
-    let from : words ≡ Some other = told.words_are in
-    let same : other ≡ command = cc in
-    let first = subst (λ c. refusal_of c known ≡ expected) same told.first in
-    sym (ap (λ p. option_map_or (λ all. phases_refusal [] all (held known all)) p (Some Later)) unbuilt) ∙ first
-
--- a command isn't both built and not
-both_built : (command : Command) (phases : List Phase) → phases_of command ≡ Some phases → phases_of command ≡ None → ⊥
-both_built command phases built unbuilt = let same : Some phases ≡ None = sym built ∙ unbuilt in cc
+    subst (λ c. refusal_of c known ≡ expected) same told.first
 
 -- the words were refused
 pub complete_words : (words : Option Command) (reading : Reading) (writing : Writing) → words ≡ None → AskedNothing reading → IsComplete words reading writing (Some Words)
 complete_words words reading writing refused nothing = record {
   words_refused = λ _. inl refl;
-  later = λ unbuilt. absurd (subst (λ w. IsSomeAnd w (λ command. phases_of command ≡ None)) refused unbuilt);
   long = λ asked _. absurd (asked nothing);
   absent = λ other known told. absurd (let from = told.words_are in cc);
   refused = λ other known first told _. absurd (let from = told.words_are in cc);
@@ -52,32 +32,19 @@ complete_words words reading writing refused nothing = record {
 pub complete_memory : (words : Option Command) (reading : Reading) (writing : Writing) → IsComplete words reading writing (Some Memory)
 complete_memory words reading writing = record {
   words_refused = λ _. inr refl;
-  later = λ _. inr refl;
   long = λ _ _. inr refl;
   absent = λ _ _ _. inr refl;
   refused = λ _ _ _ _ _. inr refl;
   answered = λ _ _ _ _ _. inr refl;
 }
 
--- the command isn't built
-complete_later : (words : Option Command) (reading : Reading) (writing : Writing) (command : Command) → words ≡ Some command → phases_of command ≡ None → AskedNothing reading → IsComplete words reading writing (Some Later)
-complete_later words reading writing command words_are unbuilt nothing = record {
-  words_refused = λ refused. absurd cc;
-  later = λ _. inl refl;
-  long = λ asked _. absurd (asked nothing);
-  absent = λ other known told. inl (told_later words reading command other known (Some ReadFault) words_are unbuilt told);
-  refused = λ other known first told _. inl (told_later words reading command other known (Some first) words_are unbuilt told);
-  answered = λ other known told _ _. absurd (let same = told_later words reading command other known None words_are unbuilt told in cc);
-}
-
 -- a file gave a refusal of its rules
-complete_refused : (words : Option Command) (reading : Reading) (writing : Writing) (command : Command) (phases : List Phase) (refusal : Refusal) → words ≡ Some command → phases_of command ≡ Some phases → WasRefused reading phases refusal → IsComplete words reading writing (Some refusal)
-complete_refused words reading writing command phases refusal words_are built was =
+complete_refused : (words : Option Command) (reading : Reading) (writing : Writing) (command : Command) (refusal : Refusal) → words ≡ Some command → WasRefused reading (phases_of command) refusal → IsComplete words reading writing (Some refusal)
+complete_refused words reading writing command refusal words_are was =
     let first : (known : List ℕ → Option (List ℕ)) (other : Command) (expected : Option Refusal) → IsTold words reading other known expected → Some refusal ≡ expected =
-    λ known other expected told. sym (told_refused reading phases known refusal told.files was) ∙ told_of words reading command other phases known expected words_are built told in
+    λ known other expected told. sym (told_refused reading (phases_of command) known refusal told.files was) ∙ told_of words reading command other known expected words_are told in
     record {
       words_refused = λ refused. absurd cc;
-      later = λ unbuilt. absurd (both_built command phases built (of_words words command (λ c. phases_of c ≡ None) words_are unbuilt));
       long = λ _ more. absurd (omega (arith, was.read.given, was.read.short, more));
       absent = λ other known told. inl (first known other (Some ReadFault) told);
       refused = λ other known expected told _. inl (first known other (Some expected) told);
@@ -85,13 +52,12 @@ complete_refused words reading writing command phases refusal words_are built wa
     }
 
 -- a file was too long
-complete_long : (words : Option Command) (reading : Reading) (writing : Writing) (command : Command) (phases : List Phase) → words ≡ Some command → phases_of command ≡ Some phases → StoppedLong reading phases → IsComplete words reading writing (Some Long)
-complete_long words reading writing command phases words_are built was =
+complete_long : (words : Option Command) (reading : Reading) (writing : Writing) (command : Command) → words ≡ Some command → StoppedLong reading (phases_of command) → IsComplete words reading writing (Some Long)
+complete_long words reading writing command words_are was =
     let first : (known : List ℕ → Option (List ℕ)) (other : Command) (expected : Option Refusal) → IsTold words reading other known expected → Some Long ≡ expected =
-    λ known other expected told. sym (told_long reading phases known told.files was) ∙ told_of words reading command other phases known expected words_are built told in
+    λ known other expected told. sym (told_long reading (phases_of command) known told.files was) ∙ told_of words reading command other known expected words_are told in
     record {
       words_refused = λ refused. absurd cc;
-      later = λ unbuilt. absurd (both_built command phases built (of_words words command (λ c. phases_of c ≡ None) words_are unbuilt));
       long = λ _ _. inl refl;
       absent = λ other known told. inl (first known other (Some ReadFault) told);
       refused = λ other known expected told _. inl (first known other (Some expected) told);
@@ -99,10 +65,9 @@ complete_long words reading writing command phases words_are built was =
     }
 
 -- reading a file failed
-complete_cut_off : (words : Option Command) (reading : Reading) (writing : Writing) (command : Command) (phases : List Phase) → words ≡ Some command → phases_of command ≡ Some phases → StoppedCutOff reading phases → IsComplete words reading writing (Some ReadFault)
-complete_cut_off words reading writing command phases words_are built was = record {
+complete_cut_off : (words : Option Command) (reading : Reading) (writing : Writing) (command : Command) → words ≡ Some command → StoppedCutOff reading (phases_of command) → IsComplete words reading writing (Some ReadFault)
+complete_cut_off words reading writing command words_are was = record {
   words_refused = λ refused. absurd cc;
-  later = λ unbuilt. absurd (both_built command phases built (of_words words command (λ c. phases_of c ≡ None) words_are unbuilt));
   long = λ _ more. absurd (omega (arith, was.cut_off.short, more));
   absent = λ _ _ _. inl refl;
   refused = λ other known first told works. absurd (works was.cut_off.cause);
@@ -110,13 +75,11 @@ complete_cut_off words reading writing command phases words_are built was = reco
 }
 
 -- why a command has a refusal
-pub complete_ends : (words : Option Command) (reading : Reading) (writing : Writing) (command : Command) (phases : Option (List Phase)) (refusal : Refusal) → words ≡ Some command → phases_of command ≡ phases → EndsCommand reading phases refusal → IsComplete words reading writing (Some refusal)
-complete_ends words reading writing command phases Memory words_are phases_are ends = complete_memory words reading writing
-complete_ends words reading writing command None refusal words_are unbuilt ends =
-    subst (λ r. IsComplete words reading writing (Some r)) (sym ends.0) (complete_later words reading writing command words_are unbuilt ends.1)
-complete_ends words reading writing command (Some phases) Long words_are built ends = complete_long words reading writing command phases words_are built ends
-complete_ends words reading writing command (Some phases) ReadFault words_are built ends = complete_cut_off words reading writing command phases words_are built ends
-complete_ends words reading writing command (Some phases) refusal words_are built ends = complete_refused words reading writing command phases refusal words_are built ends.1
+pub complete_ends : (words : Option Command) (reading : Reading) (writing : Writing) (command : Command) (refusal : Refusal) → words ≡ Some command → EndsPhases reading (phases_of command) refusal → IsComplete words reading writing (Some refusal)
+complete_ends words reading writing command Memory words_are ends = complete_memory words reading writing
+complete_ends words reading writing command Long words_are ends = complete_long words reading writing command words_are ends
+complete_ends words reading writing command ReadFault words_are ends = complete_cut_off words reading writing command words_are ends
+complete_ends words reading writing command refusal words_are ends = complete_refused words reading writing command refusal words_are ends.1
 
 -- the last file that was read has no more than LONGEST bytes
 last_short : (given : ℕ) (bytes : List ℕ) (contents : List (List ℕ)) → IfSome (last_or (Some bytes) contents) (λ b. (given ≡ length b) × (length b ≤ LONGEST)) → given ≤ LONGEST
@@ -130,14 +93,13 @@ given_short reading (phase ∷ phases) [] count asks asked given = absurd (omega
 given_short reading (phase ∷ phases) (bytes ∷ contents) count asks asked given = last_short reading.given bytes contents given
 
 -- all files passed: the answer is none, unless the sink failed
-pub complete_accepted : (words : Option Command) (reading : Reading) (writing : Writing) (command : Command) (phases : List Phase) (contents : List (List ℕ)) (refusal : Option Refusal) → words ≡ Some command → phases_of command ≡ Some phases → Accepted reading phases contents → ((SinkFailed writing → ⊥) → OrMemory None refusal) → IsComplete words reading writing refusal
-complete_accepted words reading writing command phases contents refusal words_are built accepted none =
+pub complete_accepted : (words : Option Command) (reading : Reading) (writing : Writing) (command : Command) (contents : List (List ℕ)) (refusal : Option Refusal) → words ≡ Some command → Accepted reading (phases_of command) contents → ((SinkFailed writing → ⊥) → OrMemory None refusal) → IsComplete words reading writing refusal
+complete_accepted words reading writing command contents refusal words_are accepted none =
     let first : (known : List ℕ → Option (List ℕ)) (other : Command) (expected : Option Refusal) → IsTold words reading other known expected → None ≡ expected =
-    λ known other expected told. sym (told_accepted reading phases known contents told.files accepted) ∙ told_of words reading command other phases known expected words_are built told in
+    λ known other expected told. sym (told_accepted reading (phases_of command) known contents told.files accepted) ∙ told_of words reading command other known expected words_are told in
     record {
       words_refused = λ refused. absurd cc;
-      later = λ unbuilt. absurd (both_built command phases built (of_words words command (λ c. phases_of c ≡ None) words_are unbuilt));
-      long = λ asked more. absurd (let short = given_short reading phases contents accepted.passed.count accepted.asks asked accepted.given in omega (arith, short, more));
+      long = λ asked more. absurd (let short = given_short reading (phases_of command) contents accepted.passed.count accepted.asks asked accepted.given in omega (arith, short, more));
       absent = λ other known told. absurd (let same = first known other (Some ReadFault) told in cc);
       refused = λ other known expected told _. absurd (let same = first known other (Some expected) told in cc);
       answered = λ _ _ _ _ works. none works;

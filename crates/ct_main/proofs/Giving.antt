@@ -27,12 +27,12 @@ use Rattle.pair_replay.specs.FirstBadLine.{first_bad_line}
 use Rattle.ct_main.specs.declared.refusal.Refusal.{Refusal}
 use Rattle.ct_main.specs.declared.refusal.Refusal.TheVariants.{Elf as FileRule, Policy as PolicyRule, PairText}
 use Rattle.ct_main.specs.Refusals.{read_refusal, elf_refusal, policy_refusal, pair_refusal}
-use Rattle.ct_main.specs.Outside.{Reading, read_of, WasRead}
+use Rattle.ct_main.specs.Outside.{Reading, read_of, AskedNothing, WasRead}
 use Rattle.ct_main.specs.Phases.{Phase, Rules, program_of, policy_bytes, policy_inputs, executable_rules, routine_rules, policy_rules, pair_rules}
 use Rattle.ct_main.specs.Reads.{Begun, Accepted, EndsPhases}
 use Rattle.ct_main.specs.Texts.{IsPairFor}
 use Rattle.ct_main.specs.Tasks.{AskedForName, IsRead, IsUnread, PassedWith, Gives, GivesFirst}
-use Rattle.ct_main.proofs.Passing.{first_accepted, second_accepted, first_begun, second_begun, rose_after}
+use Rattle.ct_main.proofs.Passing.{none_accepted, first_accepted, second_accepted, first_begun, second_begun, rose_after}
 use Rattle.ct_main.proofs.Following.{next_begun, next_read, next_unread, next_accepted}
 use Rattle.ct_main.proofs.RuleLemmas.{executable_meets, routine_meets, routine_fails, policy_meets, policy_fails, pair_is, inputs_are}
 
@@ -45,6 +45,10 @@ err_gives reading phases Says (Err other) refusal is ends = subst (EndsPhases re
 err_gives_first : {T : Type 0} (reading : Reading) (phases : List Phase) (Says : List (List ℕ) → T → Type 0) (result : Result T Refusal) (refusal : Refusal) → IsErrAnd result (λ r. r ≡ refusal) → ((rest : List Phase) → EndsPhases reading (phases ++ rest) refusal) → GivesFirst reading phases Says result
 err_gives_first reading phases Says (Ok made) refusal is ends = absurd is
 err_gives_first reading phases Says (Err other) refusal is ends = λ rest. subst (EndsPhases reading (phases ++ rest)) (sym is) (ends rest)
+
+-- what needs no file
+pub no_file_gives : (reading : Reading) (Says : List (List ℕ) → Type 0) → AskedNothing reading → Says [] → PassedWith reading [] Says
+no_file_gives reading Says nothing says = record { contents = []; accepted = none_accepted reading nothing; says = says }
 
 -- the first file wasn't read whole
 unread_ends : (reading : Reading) (name : List ℕ) (rules : Rules) (rest : List Phase) (end : ReadEnd) → IsUnread reading name end → EndsPhases reading ((name, rules) ∷ rest) (read_refusal end)

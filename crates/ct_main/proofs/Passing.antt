@@ -1,5 +1,5 @@
 -- How the phases of a command pass, or end, by what was read of its files.
-use Rattle.std.proofs.Common.{◌≡◌, ◌≤◌, ℕ, nat_lt, if◌then◌else◌, List, [], ◌∷◌, ◌++◌, length, Option, None, Some, IfSome, refl, ap, subst, arith}
+use Rattle.std.proofs.Common.{◌≡◌, ◌∙◌, ◌≤◌, ℕ, nat_lt, if◌then◌else◌, List, [], ◌∷◌, ◌++◌, length, Option, None, Some, IfSome, refl, sym, ap, subst, arith, append-nil}
 use Rattle.std.specs.Option.{option_or}
 use Rattle.std.proofs.lemmas.Grind.{common_steps}
 use Rattle.ct_outside.specs.declared.reading.TheConstants.{LONGEST}
@@ -55,6 +55,14 @@ first_accepted reading name bytes rules is meets = record {
 pub no_phases : phases_refusal [] [] (there []) ≡ None
 unfolding phases_refusal
 no_phases = refl
+
+-- where nothing was asked for, no phases are accepted
+pub none_accepted : (reading : Reading) → reading.asked ≡ reading.asked_before → Accepted reading [] []
+none_accepted reading nothing = record {
+  passed = record { count = refl; own = no_own reading.files; meet = no_phases };
+  asks = nothing ∙ sym (append-nil reading.asked_before);
+  given = tt;
+}
 
 -- the first file was begun
 abbrev pub first_begun : (reading : Reading) (name : List ℕ) (rules : Rules) (rest : List Phase) → AskedForName reading name → Begun reading ((name, rules) ∷ rest)

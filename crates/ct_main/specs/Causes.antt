@@ -5,16 +5,14 @@ use Rattle.ct_report.specs.declared.outcome.Outcome.{Outcome}
 use Rattle.ct_main.specs.declared.refusal.Refusal.{Refusal}
 use Rattle.ct_main.specs.declared.refusal.Refusal.TheVariants.{Words, Memory, WriteFault}
 use Rattle.ct_main.specs.Outside.{Reading, Writing, AskedNothing, WroteNothing, WroteWhole, WroteFront}
-use Rattle.ct_main.specs.Phases.{Phase, phases_of}
-use Rattle.ct_main.specs.Reads.{Accepted, EndsCommand}
+use Rattle.ct_main.specs.Phases.{phases_of}
+use Rattle.ct_main.specs.Reads.{Accepted, EndsPhases}
 use Rattle.ct_main.specs.Texts.{IsCheck, IsTextOf}
 
--- the words are this command, which is built, and its files, which hold this, were read and passed
+-- the words are this command, and its files, which hold this, were read and passed
 pub record Accepts (words : Option Command) (reading : Reading) (command : Command) (contents : List (List ℕ)) : Type 0 where
   pub words_are : words ≡ Some command
-  pub phases : List Phase
-  pub built : phases_of command ≡ Some phases
-  pub accepted : Accepted reading phases contents
+  pub accepted : Accepted reading (phases_of command) contents
 
 -- the check for which words and files ask ran to its end, with this outcome
 pub record WasChecked (words : Option Command) (reading : Reading) (outcome : Outcome) : Type 0 where
@@ -46,8 +44,8 @@ pub record WasCut (words : Option Command) (reading : Reading) (writing : Writin
 -- why a call has a refusal before it writes; one that no line names comes from the command's files
 abbrev pub Refuses : Option Command → Reading → Refusal → Type 0
 Refuses words reading Words = (words ≡ None) × AskedNothing reading
-Refuses words reading Memory = AskedNothing reading ⊎ IsSomeAnd words (λ command. EndsCommand reading (phases_of command) Memory)
-Refuses words reading refusal = IsSomeAnd words (λ command. EndsCommand reading (phases_of command) refusal)
+Refuses words reading Memory = AskedNothing reading ⊎ IsSomeAnd words (λ command. EndsPhases reading (phases_of command) Memory)
+Refuses words reading refusal = IsSomeAnd words (λ command. EndsPhases reading (phases_of command) refusal)
 
 -- why a call has this refusal, or none and this status
 abbrev pub HasCause : Option Command → Reading → Writing → ℕ → Option Outcome → Option Refusal → Type 0

@@ -1,11 +1,11 @@
 -- Which answer has to come.
-use Rattle.std.specs.Prelude.{◌≡◌, ◌⊎◌, ◌<◌, ℕ, List, Option, Some, None, IsSomeAnd}
+use Rattle.std.specs.Prelude.{◌≡◌, ◌⊎◌, ◌<◌, ℕ, List, Option, Some, None}
 use Rattle.ct_outside.specs.declared.reading.TheConstants.{LONGEST}
 use Rattle.ct_lines.specs.declared.command.Command.{Command}
 use Rattle.ct_main.specs.declared.refusal.Refusal.{Refusal}
-use Rattle.ct_main.specs.declared.refusal.Refusal.TheVariants.{Words, Long, Later, Memory, ReadFault}
+use Rattle.ct_main.specs.declared.refusal.Refusal.TheVariants.{Words, Long, Memory, ReadFault}
 use Rattle.ct_main.specs.Outside.{Reading, Writing, AskedNothing, ShelfFailed, SinkFailed}
-use Rattle.ct_main.specs.Phases.{phases_of, refusal_of}
+use Rattle.ct_main.specs.Phases.{refusal_of}
 
 -- this refusal, or none, unless memory was wanted
 abbrev pub OrMemory : Option Refusal → Option Refusal → Type 0
@@ -20,7 +20,6 @@ pub record IsTold (words : Option Command) (reading : Reading) (command : Comman
 -- wherever a cause stands, in the order of the causes, its answer comes, unless memory is wanted
 pub record IsComplete (words : Option Command) (reading : Reading) (writing : Writing) (refusal : Option Refusal) : Type 0 where
   pub words_refused : words ≡ None → OrMemory (Some Words) refusal
-  pub later : IsSomeAnd words (λ command. phases_of command ≡ None) → OrMemory (Some Later) refusal
   pub long : (AskedNothing reading → ⊥) → LONGEST < reading.given → OrMemory (Some Long) refusal
   pub absent : (command : Command) (known : List ℕ → Option (List ℕ)) → IsTold words reading command known (Some ReadFault)
       → OrMemory (Some ReadFault) refusal

@@ -7,7 +7,7 @@ use Rattle.elf_load.specs.File.{first_refusal}
 use Rattle.elf_load.specs.Loading.{elf_of}
 use Rattle.ct_outside.specs.declared.reading.TheConstants.{LONGEST}
 use Rattle.ct_lines.specs.declared.command.Command.{Command}
-use Rattle.ct_lines.specs.declared.command.Command.TheVariants.{Byte, Check, Replay, Trace, List as Listing}
+use Rattle.ct_lines.specs.declared.command.Command.TheVariants.{Byte, Check, Replay, Trace, List as Listing, Gen}
 use Rattle.ct_lines.specs.Commands.{files_of}
 use Rattle.ct_pairs.specs.declared.entry.Entry.{Entry}
 use Rattle.ct_pairs.specs.declared.input_byte.InputByte.{InputByte}
@@ -18,7 +18,7 @@ use Rattle.ct_policy.specs.Rules.{first_policy_refusal}
 use Rattle.ct_policy.specs.ByteJob.{byte_refusal}
 use Rattle.pair_replay.specs.FirstBadLine.{first_bad_line}
 use Rattle.ct_main.specs.declared.refusal.Refusal.{Refusal}
-use Rattle.ct_main.specs.declared.refusal.Refusal.TheVariants.{Elf as FileRule, Policy as PolicyRule, Long, PairText, Later, ReadFault}
+use Rattle.ct_main.specs.declared.refusal.Refusal.TheVariants.{Elf as FileRule, Policy as PolicyRule, Long, PairText, ReadFault}
 
 -- the bytes of the executable, which is the first of a command's files
 abbrev pub binary_bytes : List (List ℕ) → List ℕ
@@ -62,22 +62,22 @@ unfoldable pub pair_rules : Rules
 pair_rules contents =
     option_map (λ k. PairText k) (first_bad_line (policy_inputs (program_of contents) (policy_bytes contents)) (pair_bytes contents))
 
--- the rules of each file of a command, in the order in which it reads them; None where it isn't built
-abbrev pub rules_of : Command → Option (List Rules)
-rules_of (Byte binary entry bound) = Some (routine_rules entry ∷ [])
-rules_of (Check binary policy bound workers budget targets) = Some (executable_rules ∷ policy_rules ∷ [])
-rules_of (Replay binary policy pair) = Some (executable_rules ∷ policy_rules ∷ pair_rules ∷ [])
-rules_of (Trace binary entry bound) = Some (routine_rules entry ∷ [])
-rules_of (Listing binary) = Some (executable_rules ∷ [])
-rules_of _ = None
+-- the rules of each file of a command, in the order in which it reads them
+abbrev pub rules_of : Command → List Rules
+rules_of (Byte binary entry bound) = routine_rules entry ∷ []
+rules_of (Check binary policy bound workers budget targets) = executable_rules ∷ policy_rules ∷ []
+rules_of (Replay binary policy pair) = executable_rules ∷ policy_rules ∷ pair_rules ∷ []
+rules_of (Trace binary entry bound) = routine_rules entry ∷ []
+rules_of (Listing binary) = executable_rules ∷ []
+rules_of (Gen number size) = []
 
 -- a phase: the name of a file, and the rules that it is held against
 abbrev pub Phase : Type 0
 Phase = List ℕ × Rules
 
--- the phases of a command, one for each of its files; None where it isn't built
-abbrev pub phases_of : Command → Option (List Phase)
-phases_of command = option_map (λ rules. zip (files_of command) rules) (rules_of command)
+-- the phases of a command, one for each of its files
+abbrev pub phases_of : Command → List Phase
+phases_of command = zip (files_of command) (rules_of command)
 
 -- the names of the files of phases
 abbrev pub names_of : List Phase → List (List ℕ)
@@ -104,4 +104,4 @@ phases_refusal before _ _ = None
 
 -- the first refusal of a command where files hold this, in the order in which causes are looked for
 abbrev pub refusal_of : Command → (List ℕ → Option (List ℕ)) → Option Refusal
-refusal_of command known = option_map_or (λ phases. phases_refusal [] phases (held known phases)) (phases_of command) (Some Later)
+refusal_of command known = phases_refusal [] (phases_of command) (held known (phases_of command))

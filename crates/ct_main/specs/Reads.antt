@@ -1,11 +1,11 @@
 -- How the phases of a command ended, by what its shelf was asked for and gave.
-use Rattle.std.specs.Prelude.{◌≡◌, ◌≢◌, ◌⊎◌, ◌≤◌, ℕ, List, [], ◌∷◌, ◌++◌, length, Option, Some, None, IfSome}
+use Rattle.std.specs.Prelude.{◌≡◌, ◌≢◌, ◌⊎◌, ◌≤◌, ℕ, List, [], ◌∷◌, ◌++◌, length, Some, None, IfSome}
 use Rattle.std.specs.List.{last_or}
 use Rattle.elf_load.specs.declared.refusal.ElfRefusal.TheVariants as files
 use Rattle.ct_document.specs.declared.refusal.PolicyRefusal.TheVariants as policies
 use Rattle.ct_outside.specs.declared.reading.TheConstants.{LONGEST}
 use Rattle.ct_main.specs.declared.refusal.Refusal.{Refusal}
-use Rattle.ct_main.specs.declared.refusal.Refusal.TheVariants.{Elf, Policy, PairText, Long, Later, Memory, ReadFault}
+use Rattle.ct_main.specs.declared.refusal.Refusal.TheVariants.{Elf, Policy, PairText, Long, Memory, ReadFault}
 use Rattle.ct_main.specs.Outside.{Reading, AskedNothing, WasRead, WasLong, WasCutOff}
 use Rattle.ct_main.specs.Phases.{Phase, names_of, held, there, phases_refusal}
 
@@ -69,9 +69,3 @@ EndsPhases reading phases Long = StoppedLong reading phases
 EndsPhases reading phases ReadFault = StoppedCutOff reading phases
 EndsPhases reading phases Memory = WantedMemory reading phases
 EndsPhases reading phases refusal = IsRule refusal × WasRefused reading phases refusal
-
--- why a command has this refusal, by its phases; one that isn't built asks for nothing
-abbrev pub EndsCommand : Reading → Option (List Phase) → Refusal → Type 0
-EndsCommand reading (Some phases) refusal = EndsPhases reading phases refusal
-EndsCommand reading None Memory = AskedNothing reading
-EndsCommand reading None refusal = (refusal ≡ Later) × AskedNothing reading

@@ -5,7 +5,7 @@ use Rattle.ct_report.specs.Report.{finding_of}
 use Rattle.pair_replay.specs.declared.replayed.Replayed.{Replayed}
 use Rattle.pair_replay.specs.declared.replayed.Replayed.TheVariants.{Agree, Differ}
 use Rattle.ct_main.specs.declared.refusal.Refusal.{Refusal}
-use Rattle.ct_main.specs.declared.refusal.Refusal.TheVariants.{Words, Elf, Policy, Long, PairText, Later, Memory, ReadFault, WriteFault}
+use Rattle.ct_main.specs.declared.refusal.Refusal.TheVariants.{Words, Elf, Policy, Long, PairText, Memory, ReadFault, WriteFault}
 use Rattle.ct_main.specs.FindingStatus.{finding_status}
 
 -- the status of a refusal
@@ -15,7 +15,6 @@ refusal_status (Elf rule) = 65
 refusal_status (Policy rule) = 66
 refusal_status Long = 67
 refusal_status (PairText line) = 68
-refusal_status Later = 69
 refusal_status Memory = 70
 refusal_status ReadFault = 74
 refusal_status WriteFault = 75

@@ -8,7 +8,7 @@ use Rattle.ct_outside.specs.declared.reading.ReadEnd.TheVariants as ends
 use Rattle.ct_lines.specs.Words.{IsWithin}
 use Rattle.ct_lines.specs.declared.command.TheConstants.{MOST_WORKERS}
 use Rattle.ct_lines.specs.declared.command.Command.{Command}
-use Rattle.ct_lines.specs.declared.command.Command.TheVariants.{Byte, Check, Replay, Trace, List as Listing}
+use Rattle.ct_lines.specs.declared.command.Command.TheVariants.{Byte, Check, Replay, Trace, List as Listing, Gen}
 use Rattle.ct_pairs.specs.declared.job.Job.{Job}
 use Rattle.ct_pairs.specs.Inputs.{public_count, secret_count}
 use Rattle.ct_pairs.specs.Pair.{IsPair}
@@ -16,15 +16,18 @@ use Rattle.ct_report.specs.Report.{report_of}
 use Rattle.ct_report.specs.Outcomes.{IsCheckOf}
 use Rattle.ct_listing.specs.Trace.{trace_of}
 use Rattle.ct_listing.specs.List.{list_of}
+use Rattle.ct_gen.specs.Building.{built_of}
+use Rattle.ct_gen.specs.Summary.{summary_of}
 use Rattle.ct_main.specs.declared.refusal.Refusal.{Refusal}
 use Rattle.ct_report.specs.declared.outcome.Outcome.{Outcome}
 use Rattle.ct_main.specs.declared.refusal.Refusal.TheVariants.{Memory, WriteFault}
+use Rattle.ct_main.specs.declared.generated.Generated.{Generated}
 use Rattle.ct_main.specs.declared.task.Task.{Task}
 use Rattle.ct_main.specs.declared.task.Task.TheVariants as tasks
 use Rattle.ct_main.specs.declared.made.Made.{Made}
 use Rattle.ct_main.specs.Outside.{Reading, Writing, AskedNothing, WasRead, WasLong, WasCutOff, WroteNothing, WroteWhole, WroteFront}
 use Rattle.ct_main.specs.Phases.{Phase, phases_of, program_of}
-use Rattle.ct_main.specs.Reads.{Accepted, EndsPhases, EndsCommand}
+use Rattle.ct_main.specs.Reads.{Accepted, EndsPhases}
 use Rattle.ct_main.specs.Outcomes.{IsByteCheckOf}
 use Rattle.ct_main.specs.Texts.{IsJobFor, IsComparison, IsPairFor}
 use Rattle.ct_main.specs.Causes.{Refuses}
@@ -74,6 +77,14 @@ CanDo (tasks.Check job workers) = IsWithin 1 MOST_WORKERS workers
 CanDo (tasks.Replay job pair) = IsPair job pair
 CanDo (tasks.Trace job) = HasOneSecret job
 CanDo (tasks.List elf) = FitsMemory (segment_extents elf)
+CanDo (tasks.Gen generated) = Unit {0}
+
+-- the code generated from a number and a size, how many words it has, and its job
+pub record IsGenerated (number size : ℕ) (contents : List (List ℕ)) (generated : Generated) : Type 0 where
+  pub number_is : generated.number ≡ number
+  pub size_is : generated.size ≡ size
+  pub words_are : generated.words ≡ (built_of number size).words
+  pub job_is : IsJobFor (Gen number size) contents generated.job
 
 -- the task of a command and of what its files hold
 abbrev pub IsTaskOf : Command → List (List ℕ) → Task → Type 0
@@ -84,17 +95,16 @@ IsTaskOf (Replay binary policy name) contents (tasks.Replay job pair) =
     IsJobFor (Replay binary policy name) contents job × IsPairFor contents job pair
 IsTaskOf (Trace binary entry bound) contents (tasks.Trace job) = IsJobFor (Trace binary entry bound) contents job
 IsTaskOf (Listing binary) contents (tasks.List elf) = elf ≡ program_of contents
+IsTaskOf (Gen number size) contents (tasks.Gen generated) = IsGenerated number size contents generated
 IsTaskOf _ contents _ = ⊥
 
--- the command is built, its files have passed, and this is what remains to be done
-pub record IsPrepared (reading : Reading) (command : Command) (task : Task) : Type 0 where
-  pub phases : List Phase
-  pub built : phases_of command ≡ Some phases
-  pub passed : PassedWith reading phases (λ contents. IsTaskOf command contents task)
+-- the files of the command have passed, and this is what remains to be done
+abbrev pub IsPrepared : Reading → Command → Task → Type 0
+IsPrepared reading command task = PassedWith reading (phases_of command) (λ contents. IsTaskOf command contents task)
 
 -- the task of a command, or why there is none
 abbrev pub Prepares : Reading → Command → Result Task Refusal → Type 0
-Prepares reading command result = MatchResult result (IsPrepared reading command) (EndsCommand reading (phases_of command))
+Prepares reading command result = MatchResult result (IsPrepared reading command) (EndsPhases reading (phases_of command))
 
 -- the report of a job and of the outcome of its check, with the status of the verdict
 pub record IsReported (job : Job) (outcome : Outcome) (status : ℕ) (text : List ℕ) : Type 0 where
@@ -105,6 +115,15 @@ pub record IsReported (job : Job) (outcome : Outcome) (status : ℕ) (text : Lis
 abbrev pub IsToldOf : Job → Made → Type 0
 IsToldOf job made = IfOk made.text (λ text. IsSomeAnd made.outcome (λ outcome. IsReported job outcome made.status text))
 
+-- the line that sums up the check of generated code, with the status of the verdict
+pub record IsSummedUp (generated : Generated) (outcome : Outcome) (status : ℕ) (text : List ℕ) : Type 0 where
+  pub status_is : status ≡ outcome_status outcome
+  pub text_is : text ≡ summary_of generated.number generated.size generated.words outcome
+
+-- the text that was made, if there was memory for it, sums up the outcome
+abbrev pub IsSummaryOf : Generated → Made → Type 0
+IsSummaryOf generated made = IfOk made.text (λ text. IsSomeAnd made.outcome (λ outcome. IsSummedUp generated outcome made.status text))
+
 -- what came of a task: the outcome of a check, and the whole text with its status, unless memory was wanted
 abbrev pub IsDone : Task → Made → Type 0
 IsDone (tasks.Byte job) made = IfSome made.outcome (IsByteCheckOf job) × IsToldOf job made
@@ -113,6 +132,7 @@ IsDone (tasks.Replay job pair) made = (made.outcome ≡ None) × IfOk made.text 
 IsDone (tasks.Trace job) made = (made.outcome ≡ None) × IfOk made.text (λ text. (made.status ≡ 0) × (text ≡ trace_of job))
 IsDone (tasks.List elf) made =
     (made.outcome ≡ None) × IfOk made.text (λ text. (made.status ≡ 0) × (text ≡ list_of (cells_of elf [])))
+IsDone (tasks.Gen generated) made = IfSome made.outcome (IsCheckOf generated.job) × IsSummaryOf generated made
 
 -- the task of the words and their files, or why there is none
 abbrev pub Finds : Option Command → Reading → Result Task Refusal → Type 0

@@ -1,8 +1,9 @@
 -- The text for which a command asks.
 use Rattle.std.specs.Prelude.{◌≡◌, ℕ, List, [], Option, None, IsSomeAnd}
+use Rattle.elf_load.specs.Loading.{elf_of}
 use Rattle.rv_image.specs.Loading.{cells_of}
 use Rattle.ct_lines.specs.declared.command.Command.{Command}
-use Rattle.ct_lines.specs.declared.command.Command.TheVariants.{Byte, Check, Replay, Trace, List as Listing}
+use Rattle.ct_lines.specs.declared.command.Command.TheVariants.{Byte, Check, Replay, Trace, List as Listing, Gen}
 use Rattle.ct_pairs.specs.declared.job.Job.{Job}
 use Rattle.ct_pairs.specs.declared.limits.TheConstants.{USUAL_BUDGET, USUAL_TARGETS}
 use Rattle.ct_pairs.specs.declared.pair.Pair.{Pair}
@@ -14,6 +15,8 @@ use Rattle.ct_report.specs.declared.outcome.Outcome.{Outcome}
 use Rattle.ct_report.specs.Report.{report_of}
 use Rattle.ct_listing.specs.Trace.{trace_of}
 use Rattle.ct_listing.specs.List.{list_of}
+use Rattle.ct_gen.specs.Building.{built_of}
+use Rattle.ct_gen.specs.Summary.{summary_of}
 use Rattle.pair_replay.specs.declared.replayed.Replayed.{Replayed}
 use Rattle.pair_replay.specs.PairText.{pair_text}
 use Rattle.pair_replay.specs.Replaying.{IsReplayed}
@@ -23,17 +26,19 @@ use Rattle.ct_report.specs.Outcomes.{IsCheckOf}
 use Rattle.ct_main.specs.Outcomes.{IsByteCheckOf}
 use Rattle.ct_main.specs.Status.{outcome_status, replay_status}
 
--- what a replay takes beside its policy: the usual budget and targets, which no run looks at
-abbrev pub replay_options : Options
-replay_options = record { bound = None; budget = USUAL_BUDGET; targets = USUAL_TARGETS }
+-- what is taken beside a policy where the words say nothing of it: the policy's own bound, and the usual budget and targets
+abbrev pub usual_options : Options
+usual_options = record { bound = None; budget = USUAL_BUDGET; targets = USUAL_TARGETS }
 
--- the job of a command and what its files hold: that of one secret byte at the entry, or that of the policy
+-- the job of a command and what its files hold: that of one secret byte at the entry, or that of the policy; a generated file
+-- and its policy are read as if they were files
 abbrev pub IsJobFor : Command → List (List ℕ) → Job → Type 0
 IsJobFor (Byte binary entry bound) contents job = IsByteJobAt (program_of contents) entry bound job
 IsJobFor (Check binary policy bound workers budget targets) contents job =
     IsJobOfBytes (program_of contents) (record { bound = bound; budget = budget; targets = targets }) (policy_bytes contents) job
-IsJobFor (Replay binary policy pair) contents job = IsJobOfBytes (program_of contents) replay_options (policy_bytes contents) job
+IsJobFor (Replay binary policy pair) contents job = IsJobOfBytes (program_of contents) usual_options (policy_bytes contents) job
 IsJobFor (Trace binary entry bound) contents job = IsByteJobAt (program_of contents) entry bound job
+IsJobFor (Gen number size) contents job = IsJobOfBytes (elf_of (built_of number size).file) usual_options (built_of number size).policy job
 IsJobFor _ contents job = ⊥
 
 -- what the outcome of a command's check is: that of one secret byte is exact
@@ -53,6 +58,13 @@ pub record IsReport (command : Command) (contents : List (List ℕ)) (outcome : 
   pub job_is : IsJobFor command contents job
   pub outcome_is : IsOutcomeFor command job outcome
   pub text_is : text ≡ report_of job outcome
+
+-- the line that sums up the check of the code generated from a number and a size
+pub record IsSummary (number size : ℕ) (contents : List (List ℕ)) (outcome : Outcome) (text : List ℕ) : Type 0 where
+  pub job : Job
+  pub job_is : IsJobFor (Gen number size) contents job
+  pub outcome_is : IsCheckOf job outcome
+  pub text_is : text ≡ summary_of number size (built_of number size).words outcome
 
 -- the trace of the command's job
 pub record IsTrace (command : Command) (contents : List (List ℕ)) (text : List ℕ) : Type 0 where
@@ -80,12 +92,15 @@ pub record IsReplay (command : Command) (contents : List (List ℕ)) (status : �
   pub pair_is : IsPairFor contents job pair
   pub comparison : IsComparison job pair status text
 
--- the text for which a command asks, with its outcome and status: a replay, a trace, a list of words, or a check's report
+-- the text for which a command asks, with its outcome and status: a replay, a trace, a list of words, or a check's
+-- report or summary
 abbrev pub IsTextOf : Command → List (List ℕ) → Option Outcome → ℕ → List ℕ → Type 0
 IsTextOf (Replay binary policy pair) contents outcome status text = (outcome ≡ None) × IsReplay (Replay binary policy pair) contents status text
 IsTextOf (Trace binary entry bound) contents outcome status text =
     (outcome ≡ None) × (status ≡ 0) × IsTrace (Trace binary entry bound) contents text
 IsTextOf (Listing binary) contents outcome status text =
     (outcome ≡ None) × (status ≡ 0) × (text ≡ list_of (cells_of (program_of contents) []))
+IsTextOf (Gen number size) contents outcome status text =
+    IsSomeAnd outcome (λ found. (status ≡ outcome_status found) × IsSummary number size contents found text)
 IsTextOf command contents outcome status text =
     IsSomeAnd outcome (λ found. (status ≡ outcome_status found) × IsReport command contents found text)

@@ -4,6 +4,7 @@
 mod errors;
 mod files;
 mod finished;
+mod generated;
 mod laws;
 mod made;
 mod output;
@@ -15,6 +16,7 @@ mod task;
 
 pub use errors::{Printer, tell};
 pub use finished::Finished;
+pub use generated::Generated;
 pub use laws::leak_sites_law;
 pub use output::write_made;
 pub use preparation::prepare;

@@ -13,11 +13,13 @@ ghost use Rattle.ct_lines.specs.declared.command.TheConstants.{MOST_WORKERS};
 ghost use Rattle.rel_step.specs.declared.simplifying.TheConstants.{MOST_PASSES};
 ghost use Rattle.ct_main.specs.Outcomes.{IsByteCheckOf};
 ghost use Rattle.ct_main.specs.Status.{replay_status as replay_code};
-ghost use Rattle.ct_main.specs.Tasks.{HasOneSecret, CanDo, IsToldOf, IsDone};
+ghost use Rattle.ct_main.specs.Tasks.{HasOneSecret, CanDo, IsToldOf, IsSummaryOf, IsDone};
 
 use crate::finished::finding_status;
+use crate::generated::Generated;
 use crate::task::Task;
 use bv_passes::Kit;
+use ct_gen::summary_text;
 use ct_listing::{list_text, trace_text};
 use ct_outside::Gate;
 use ct_pairs::{Job, Pair, byte_check};
@@ -30,7 +32,7 @@ use rv_image::Image;
 use std::alloc::{AllocError, Global};
 use std::sync::Wait;
 use std::thread::Threads;
-use work_crew::check_job;
+use work_crew::{check_alone, check_job};
 
 /// What came of a task, before anything is written.
 #[derive(Debug, Drop)]
@@ -97,6 +99,16 @@ fn replay_status(replayed: &Replayed) -> u8
         Replayed::Agree { .. } => 0,
         Replayed::Differ(_) => 1,
     }
+}
+
+/// The first of the kits; the others are dropped.
+fn first_kit(kits: Vec<Kit>) -> Kit
+    requires enough { MOST_WORKERS ≤ length kits.items }
+    requires few { All (λ kit. length kit.items ≤ MOST_PASSES) kits.items }
+    ensures few { length result.items ≤ MOST_PASSES }
+{
+    let mut kits = kits;
+    kits.swap_remove(0)
 }
 
 impl Made {
@@ -170,6 +182,38 @@ impl Made {
         }
     }
 
+    /// The outcome of a check of generated code, and its summary.
+    fn of_summary(alloc: Global, generated: &Generated, outcome: Outcome) -> Made
+        ensures outcome { result.outcome ≡ Some outcome }
+        ensures told { IsSummaryOf generated.now result }
+    {
+        let text = summary_text(
+            alloc,
+            generated.number,
+            generated.size,
+            generated.words,
+            &outcome,
+        );
+        Made {
+            status: finding_status(outcome.verdict()),
+            outcome: Some(outcome),
+            text,
+        }
+    }
+
+    /// Checks generated code by one worker, with the passes of the first kit, and sums up what was found.
+    fn by_generated(alloc: Global, generated: &Generated, kits: Vec<Kit>) -> Made
+        requires enough { MOST_WORKERS ≤ length kits.items }
+        requires few { All (λ kit. length kit.items ≤ MOST_PASSES) kits.items }
+        ensures { IsDone (Task.Gen generated.now) result }
+    {
+        let mut kit = first_kit(kits);
+        match check_alone(alloc, &generated.job, &mut kit) {
+            Ok(outcome) => Made::of_summary(alloc, generated, outcome),
+            Err(error) => Made::without_outcome(0, Err(error)),
+        }
+    }
+
     /// Does a task and makes its whole text.
     pub(crate) fn by_task<R: Threads + Wait + Sync, G: Gate>(
         rt: &R,
@@ -189,6 +233,7 @@ impl Made {
             Task::Replay(job, pair) => Made::by_replay(alloc, &job, &pair),
             Task::Trace(job) => Made::without_outcome(0, trace_text(alloc, &job)),
             Task::List(elf) => Made::without_outcome(0, list(alloc, elf)),
+            Task::Gen(generated) => Made::by_generated(alloc, &generated, kits),
         }
     }
 }

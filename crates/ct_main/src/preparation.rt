@@ -13,6 +13,7 @@ ghost use Rattle.ct_main.specs.Phases.{executable_rules, routine_rules, policy_r
 ghost use Rattle.ct_main.specs.Tasks.{Gives, GivesFirst, HasOneSecret, CanDo, IsTaskOf, Prepares};
 
 use crate::files::{load_file, read_file};
+use crate::generated::Generated;
 use crate::program::ASKED_BEFORE;
 use crate::refusal::Refusal;
 use crate::task::Task;
@@ -106,7 +107,8 @@ fn executable<F: Shelf>(alloc: Global, shelf: &mut F, binary: &Text) -> Result<E
     Ok(load_file(alloc, read_file(alloc, shelf, binary)?)?)
 }
 
-/// Reads the files of a command and holds each against its rules; gives what remains to be done.
+/// Reads the files of a command and holds each against its rules; gives what remains to be done. Generated code is made
+/// and read here, and the shelf isn't asked for it.
 pub fn prepare<F: Shelf>(alloc: Global, shelf: &mut F, command: &Command) -> Result<Task, Refusal>
     requires room { length (F.asked shelf.old) ≤ ASKED_BEFORE }
     requires limits { AreWithinLimits command.now }
@@ -147,6 +149,6 @@ pub fn prepare<F: Shelf>(alloc: Global, shelf: &mut F, command: &Command) -> Res
             bound,
         } => Ok(Task::Trace(routine_job(alloc, shelf, binary, entry, *bound)?)),
         Command::List { binary } => Ok(Task::List(executable(alloc, shelf, binary)?)),
-        Command::Gen { .. } => Err(Refusal::Later),
+        Command::Gen { number, size } => Ok(Task::Gen(Generated::of(alloc, *number, *size)?)),
     }
 }

@@ -67,9 +67,9 @@ fn deliver<R: Threads + Wait + Sync, S: Sink, G: Gate>(
 /// It reads the files that the words name, does what they ask, makes the whole text and then
 /// writes it; what it answers is the status to end with, the outcome of a check, and the refusal to
 /// print. A check has a kit of passes for each of its workers, which pass the gate whenever they
-/// begin a path; a check alone may wait, its workers for each other. Its time and its memory are
-/// those of `byte_check`, `check_job`, `replay`, `trace_text` or `list_text`, beside the files, the
-/// image and the text.
+/// begin a path; a check alone may wait, its workers for each other. Generated code is checked by one
+/// worker with the first kit. Its time and its memory are those of `byte_check`, `check_job`,
+/// `check_alone`, `replay`, `trace_text` or `list_text`, beside the files, the image and the text.
 pub fn ctrel<R: Threads + Wait + Sync, F: Shelf, S: Sink, G: Gate>(
     rt: &R,
     alloc: Global,

@@ -31,9 +31,6 @@ pub enum Refusal {
     /// This line of the pair's text, counted from 1, is the first that isn't as it is to be.
     #[error("pair line {0}")]
     PairText(u32),
-    /// The command isn't built yet.
-    #[error("later")]
-    Later,
     /// There was no memory.
     #[error("memory")]
     Memory,
@@ -58,7 +55,6 @@ impl Refusal {
             Refusal::Policy(_) => 66,
             Refusal::Long => 67,
             Refusal::PairText(_) => 68,
-            Refusal::Later => 69,
             Refusal::Memory => 70,
             Refusal::ReadFault => 74,
             Refusal::WriteFault => 75,

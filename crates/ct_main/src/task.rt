@@ -1,5 +1,6 @@
 //! What remains to be done once a command's files have passed.
 
+use crate::generated::Generated;
 use ct_pairs::{Job, Pair};
 use elf_load::Elf;
 
@@ -16,4 +17,6 @@ pub enum Task {
     Trace(Job),
     /// Show every word of the executable that can be executed.
     List(Elf),
+    /// Check the generated code by one worker and sum up what was found.
+    Gen(Generated),
 }

@@ -67,7 +67,6 @@ fn each_refusal_has_its_line(rt: HostRuntime) -> Result<(), Fail> {
         (Refusal::Policy(PolicyRefusal::Entry), "ctrel: policy P10\n"),
         (Refusal::Long, "ctrel: long\n"),
         (Refusal::PairText(4), "ctrel: pair line 4\n"),
-        (Refusal::Later, "ctrel: later\n"),
         (Refusal::Memory, "ctrel: memory\n"),
         (Refusal::ReadFault, "ctrel: read\n"),
         (Refusal::WriteFault, "ctrel: write\n"),
@@ -186,6 +185,49 @@ fn pairs_are_replayed_or_refused(rt: HostRuntime) -> Result<(), Fail> {
         let mut told = errors(alloc, NEVER)?;
         tell(alloc, &finished, &mut told);
         assert_eq!(rt; told.written(), line.as_bytes(), "{pair:?}");
+    }
+    Ok(())
+}
+
+#[test]
+fn generated_code_is_checked(rt: HostRuntime) -> Result<(), Fail> {
+    let alloc = rt.alloc();
+    // A number and a size, the status, and what is written.
+    for (number, size, status, text) in [
+        (
+            "1",
+            "1",
+            0,
+            "gen 1 1: 4 words, 0 sites, 0 places, 0 doubts, 1 paths, secure\n",
+        ),
+        (
+            "0",
+            "3",
+            1,
+            "gen 0 3: 11 words, 1 sites, 0 places, 0 doubts, 1 paths, insecure\n",
+        ),
+    ] {
+        let words = vec![in alloc;
+            String::from_str(alloc, "gen")?,
+            String::from_str(alloc, number)?,
+            String::from_str(alloc, size)?,
+        ]?;
+        let mut shelf = shelf(alloc, "")?;
+        let mut out = errors(alloc, NEVER)?;
+        let kits = without_passes(alloc)?;
+        let finished = ctrel(
+            &rt,
+            alloc,
+            words.as_slice(),
+            &mut shelf,
+            &mut out,
+            kits,
+            &OpenGate,
+        );
+        assert_eq!(rt; finished.status, status, "{text:?}");
+        assert!(rt; finished.outcome.is_some(), "{text:?}");
+        assert!(rt; finished.refusal.is_none(), "{text:?}");
+        assert_eq!(rt; out.written(), text.as_bytes(), "{text:?}");
     }
     Ok(())
 }

@@ -5,12 +5,10 @@ use Rattle.std.specs.declared.alloc.AllocError.{AllocError}
 use Rattle.ct_lines.specs.declared.command.Command.{Command}
 use Rattle.ct_lines.specs.declared.command.Command.TheVariants.{Byte, Check, Replay, Trace, List as Listing, Gen}
 use Rattle.ct_main.specs.declared.refusal.Refusal.{Refusal}
-use Rattle.ct_main.specs.declared.refusal.Refusal.TheVariants.{Memory, WriteFault}
+use Rattle.ct_main.specs.declared.refusal.Refusal.TheVariants.{WriteFault}
 use Rattle.ct_main.specs.declared.task.Task.{Task}
 use Rattle.ct_main.specs.declared.task.Task.TheVariants as tasks
 use Rattle.ct_main.specs.Outside.{Reading, Writing, WroteNothing}
-use Rattle.ct_main.specs.Phases.{Phase, phases_of}
-use Rattle.ct_main.specs.Reads.{EndsCommand}
 use Rattle.ct_main.specs.Causes.{Refuses}
 use Rattle.ct_main.specs.Tasks.{IsTaskOf, IsPrepared, Prepares, WroteMade}
 use Rattle.ct_main.proofs.Completing.{complete_memory, complete_accepted}
@@ -23,26 +21,21 @@ use Rattle.ct_trace.specs.Showing.{CanShow, IsTraceOf, IsDelivered}
 -- the task of a command that is shown can be shown
 can_show : (reading : Reading) (command : Command) (task : Task) → IsShown command → IsPrepared reading command task → CanShow task
 can_show reading (Check binary policy bound workers budget targets) (tasks.Check job crew) shown prepared = tt
-can_show reading (Replay binary policy pair) (tasks.Replay job start) shown prepared = prepared.passed.says.1.is_pair
+can_show reading (Replay binary policy pair) (tasks.Replay job start) shown prepared = prepared.says.1.is_pair
 can_show reading (Byte binary entry bound) task shown prepared = absurd shown
 can_show reading (Trace binary entry bound) task shown prepared = absurd shown
 can_show reading (Listing binary) task shown prepared = absurd shown
 can_show reading (Gen number size) task shown prepared = absurd shown
-can_show reading _ _ shown prepared = absurd prepared.passed.says
+can_show reading _ _ shown prepared = absurd prepared.says
 
 pub all_can_show : (reading : Reading) (command : Command) (result : Result Task Refusal) → IsShown command → Prepares reading command result → IfOk result CanShow
 all_can_show reading command (Ok task) shown prepared = can_show reading command task shown prepared
 all_can_show reading command (Err refusal) shown prepared = tt
 
--- a failing output is no refusal of a command's files
-never_writes : (reading : Reading) (phases : Option (List Phase)) → EndsCommand reading phases WriteFault → ⊥
-never_writes reading None ends = let same = ends.0 in cc
-never_writes reading (Some phases) ends = ends.0
-
 -- the cause of a refusal before anything is written
 refused_cause : (words : Option Command) (reading : Reading) (writing : Writing) (refusal : Refusal) → Refuses words reading refusal → HasCause words reading writing (Some refusal)
 refused_cause None reading writing WriteFault why = absurd why
-refused_cause (Some command) reading writing WriteFault why = absurd (never_writes reading (phases_of command) why)
+refused_cause (Some command) reading writing WriteFault why = absurd why.0
 refused_cause words reading writing refusal why = why
 
 -- a call that was refused before it wrote
@@ -59,15 +52,16 @@ trace_of_task (Replay binary policy name) contents (tasks.Replay job pair) text 
 trace_of_task command contents (tasks.Byte job) text task_is trace_is = absurd trace_is
 trace_of_task command contents (tasks.Trace job) text task_is trace_is = absurd trace_is
 trace_of_task command contents (tasks.List elf) text task_is trace_is = absurd trace_is
+trace_of_task command contents (tasks.Gen generated) text task_is trace_is = absurd trace_is
 trace_of_task _ contents _ text task_is trace_is = absurd task_is
 
 -- the trace of a command that was prepared
 asked_for : (command : Command) (reading : Reading) (task : Task) (text : List ℕ) → IsPrepared reading command task → IsTraceOf task text → IsAskedFor (Some command) reading text
 asked_for command reading task text prepared trace_is = record {
   command = command;
-  contents = prepared.passed.contents;
-  accepts = record { words_are = refl; phases = prepared.phases; built = prepared.built; accepted = prepared.passed.accepted };
-  trace_is = trace_of_task command prepared.passed.contents task text prepared.passed.says trace_is;
+  contents = prepared.contents;
+  accepts = record { words_are = refl; accepted = prepared.accepted };
+  trace_is = trace_of_task command prepared.contents task text prepared.says trace_is;
 }
 
 -- what was written of the trace of a task
@@ -75,18 +69,18 @@ written : (command : Command) (reading : Reading) (writing : Writing) (task : Ta
 written command reading writing task (Ok text) None prepared shown wrote = record {
   cause = (text, asked_for command reading task text prepared shown, wrote);
   writes = tt;
-  complete = complete_accepted (Some command) reading writing command prepared.phases prepared.passed.contents None refl prepared.built prepared.passed.accepted (λ _. inl refl);
+  complete = complete_accepted (Some command) reading writing command prepared.contents None refl prepared.accepted (λ _. inl refl);
 }
 written command reading writing task (Ok text) (Some refusal) prepared shown wrote =
     subst (λ r. IsAnswer (Some command) reading writing (Some r)) (sym wrote.0) (record {
       cause = (text, asked_for command reading task text prepared shown, wrote.1);
       writes = tt;
-      complete = complete_accepted (Some command) reading writing command prepared.phases prepared.passed.contents (Some WriteFault) refl prepared.built prepared.passed.accepted (λ works. absurd (works wrote.1.cause));
+      complete = complete_accepted (Some command) reading writing command prepared.contents (Some WriteFault) refl prepared.accepted (λ works. absurd (works wrote.1.cause));
     })
 written command reading writing task (Err error) None prepared shown wrote = absurd wrote
 written command reading writing task (Err error) (Some refusal) prepared shown wrote =
     subst (λ r. IsAnswer (Some command) reading writing (Some r)) (sym wrote.0) (record {
-      cause = inr (subst (λ p. EndsCommand reading p Memory) (sym prepared.built) (inr (inr (prepared.passed.contents, prepared.passed.accepted))));
+      cause = inr (inr (inr (prepared.contents, prepared.accepted)));
       writes = wrote.1;
       complete = complete_memory (Some command) reading writing;
     })

@@ -2,7 +2,7 @@
 //! `examples/make.py`; `cut.elf` is `return.elf` without its last byte.
 
 /// Commands whose text is written.
-pub const WRITTEN: [&str; 46] = [
+pub const WRITTEN: [&str; 50] = [
     "byte decode_table.elf 0x10000 100",
     "byte decode_branch.elf 0x10000 100",
     "byte decode_constant.elf 0x10000 100",
@@ -49,10 +49,14 @@ pub const WRITTEN: [&str; 46] = [
     "check early_comparison.elf buffers.toml --workers 16",
     "check needless_branch.elf one_secret.toml --budget 0 --workers 2",
     "check needless_branch.elf one_secret.toml --budget 0 --workers 16",
+    "gen 1 1",
+    "gen 1327 1",
+    "gen 1 2",
+    "gen 0 3",
 ];
 
 /// Commands that are refused.
-pub const REFUSED: [&str; 22] = [
+pub const REFUSED: [&str; 21] = [
     "byte cut.elf 0x10054 10",
     "list cut.elf",
     "check cut.elf not_toml.toml",
@@ -70,7 +74,6 @@ pub const REFUSED: [&str; 22] = [
     "check comparison.elf shared_byte.toml",
     "replay secret_branch.elf one_secret.toml short.pair",
     "replay a b c",
-    "gen 1 1",
     "byte missing.elf 0x10054 10",
     "check return.elf missing.toml",
     "check missing.elf one_secret.toml",

@@ -3,7 +3,7 @@ use Rattle.ct_pairs.specs.declared.pair.Pair.{Pair}
 use Rattle.ct_pairs.specs.Pair.{IsPair}
 use Rattle.pair_replay.specs.PairText.{pair_text, wanted_lines, IsBadLine, HasBadLine}
 use Rattle.pair_replay.specs.FirstBadLine.{first_bad_line}
-use Rattle.ct_main.specs.Texts.{replay_options}
+use Rattle.ct_main.specs.Texts.{usual_options}
 use Rattle.ct_main.proofs.Giving.{replay_ends_gives, pair_unread_gives, pair_fails_gives, pair_gives}
 use Rattle.ct_main.proofs.preparation.replay_task.Goals as goal
 
@@ -23,7 +23,7 @@ returns-in_err-start-clause-task g c =
     let bytes = c.in_ok-bytes.bytes.items in
     let refusal = c.in_err-start.field-0.0 in
     pair_fails_gives g.F.Shelf.files g.F.Shelf.asked g.F.Shelf.given g.F.Shelf.faults c.args.shelf.now c.policy_job.new.shelf c.read_file.new.shelf
-    c.args.binary.now c.args.policy.now c.args.pair.now bytes replay_options job _ c.from_residual-in_err-start.result refusal c.from_residual-in_err-start.ensures.1
+    c.args.binary.now c.args.policy.now c.args.pair.now bytes usual_options job _ c.from_residual-in_err-start.result refusal c.from_residual-in_err-start.ensures.1
     c.in_ok-job.ensures.job c.in_ok-job.ensures.same_files c.in_ok-bytes.ensures.read
     (subst (λ b. HasBadLine job b refusal) c.as_slice-2.ensures.value c.in_err-start.ensures.refused)
     (λ k. subst (λ b. IsBadLine (wanted_lines job) b k → first_bad_line job.inputs b ≡ Some k) c.as_slice.ensures.value ((c.bad_line_law.ensures.line k).1))
@@ -36,5 +36,5 @@ returns-clause-task g c =
     let text = subst (λ b. b ≡ pair_text start) c.as_slice-2.ensures.value c.in_ok-start.ensures.text in
     let good = subst (λ b. (first_bad_line job.inputs b ≡ None) ↔ ((pair : Pair) × IsPair job pair × (b ≡ pair_text pair))) c.as_slice.ensures.value c.bad_line_law.ensures.good in
     pair_gives g.F.Shelf.files g.F.Shelf.asked g.F.Shelf.given g.F.Shelf.faults c.args.shelf.now c.policy_job.new.shelf c.read_file.new.shelf
-    c.args.binary.now c.args.policy.now c.args.pair.now bytes replay_options job start
+    c.args.binary.now c.args.policy.now c.args.pair.now bytes usual_options job start
     c.in_ok-job.ensures.job c.in_ok-job.ensures.same_files c.in_ok-bytes.ensures.read (good.1 (start, c.in_ok-start.ensures.pair, text)) c.in_ok-start.ensures.pair text
