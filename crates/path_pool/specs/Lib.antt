@@ -1,1 +1,5 @@
+pub mod Calls
+pub mod Plays
+pub mod Rule
+pub mod Seats
 pub mod Turns

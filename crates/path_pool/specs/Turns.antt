@@ -1,12 +1,13 @@
--- What one turn of a seat that asks for a path answers and leaves, and what a refused split hands back.
-use Rattle.std.specs.Prelude.{ℕ, ◌≡◌, ◌<◌, ◌⊎◌, List, [], Option, Some, None, slice_get, Result, Ok, Err}
+-- What a seat that asks for a path finds in its turn, and leaves.
+use Rattle.std.specs.Prelude.{ℕ, ◌≡◌, ◌<◌, [], Option, Some, None, slice_get, Result, Ok, Err}
 use Rattle.std.specs.declared.alloc.AllocError.{AllocError}
 use Rattle.path_tree.specs.declared.path.Path.{Path}
-use Rattle.path_tree.specs.declared.refusal.SplitRefusal.{SplitRefusal}
-use Rattle.path_tree.specs.declared.refusal.SplitRefusal.TheVariants as refusals
 use Rattle.path_tree.specs.declared.entered.PoolCall.TheVariants as calls
-use Rattle.path_tree.specs.PoolMachine.{Pool, Contents, MayTake, out_count}
+use Rattle.path_tree.specs.PoolMachine.{Pool, Contents, out_count}
 use Rattle.path_tree.specs.Bag.{Enters}
+use Rattle.path_pool.specs.Seats.{SeatView, HasPulled}
+use Rattle.path_pool.specs.declared.asking.Asked.{Asked}
+use Rattle.path_pool.specs.declared.asking.Asked.TheVariants as asked
 use Rattle.path_pool.specs.declared.pulled.Pulled.{Pulled}
 use Rattle.path_pool.specs.declared.pulled.Pulled.TheVariants as pulled
 
@@ -20,15 +21,15 @@ pub record IsTaken (before : Contents) (seat number : ℕ) (path : Path) (after 
   pub enters : Enters before seat (calls.Took number) [] after
   pub copied : slice_get before.pool.paths number ≡ Some path
 
--- the answer of one turn: a path that was taken; finished where the seat may not take, and there the bag stays, or where no path is left; none where the seat has to wait; and for want of memory the bag stays
-abbrev pub HasPulled : Contents → ℕ → Result (Option Pulled) AllocError → Contents → Type 0
-HasPulled before seat (Ok (Some (pulled.Path number path))) after = IsTaken before seat number path after
-HasPulled before seat (Ok (Some pulled.Finished)) after =
-    Enters before seat calls.Finished [] after ⊎ ((MayTake before.pool seat → ⊥) × (after ≡ before))
-HasPulled before seat (Ok None) after = MayTake before.pool seat × HasToWait before.pool × (after ≡ before)
-HasPulled before seat (Err error) after = after ≡ before
+-- the answer of one turn: a path that was taken; finished where no path is left; none where the seat has to wait; and for want of memory the bag stays
+abbrev pub HasAsked : Contents → ℕ → Result (Option Pulled) AllocError → Contents → Type 0
+HasAsked before seat (Ok (Some (pulled.Path number path))) after = IsTaken before seat number path after
+HasAsked before seat (Ok (Some pulled.Finished)) after = Enters before seat calls.Finished [] after
+HasAsked before seat (Ok None) after = HasToWait before.pool × (after ≡ before)
+HasAsked before seat (Err error) after = after ≡ before
 
--- the kids that a refused split hands back
-abbrev pub kids_of : SplitRefusal → List Path
-kids_of (refusals.Memory kids) = kids.items
-kids_of (refusals.NotYours holder kids) = kids.items
+-- what asking once answers and leaves
+abbrev pub HasTried : SeatView → Result Asked AllocError → SeatView → Type 0
+HasTried old (Ok (asked.Pulled pulled)) new = HasPulled old (Ok pulled) new
+HasTried old (Ok (asked.NotNow count)) new = new ≡ old
+HasTried old (Err error) new = new ≡ old

@@ -1,5 +1,5 @@
 -- What a record of an open path leaves to explore.
-use Rattle.std.proofs.Common.{◌≡◌, ◌<◌, ℕ, ◌+◌, ◌≤◌, List, [], ◌∷◌, ◌++◌, length, reverse, sym, ap, subst, ◌∙◌, arith}
+use Rattle.std.proofs.Common.{◌≡◌, ◌<◌, ◌+◌, List, [], ◌∷◌, ◌++◌, reverse, arith}
 use Rattle.std.specs.List.{All}
 use Rattle.ct_pairs.specs.declared.job.Job.{Job}
 use Rattle.path_tree.specs.declared.path.Path.{Path}
@@ -8,7 +8,7 @@ use Rattle.path_run.specs.declared.record_of.RecordOf.{RecordOf}
 use Rattle.path_run.specs.Records.{IsRecord}
 use Rattle.path_run.specs.Counting.{IsCounted}
 use Rattle.work_crew.specs.declared.exploring.Explored.{Explored}
-use Rattle.work_crew.specs.Exploring.{IsExplored, AreCounted, IsExploring, root_path, work}
+use Rattle.work_crew.specs.Exploring.{IsExploring, root_path, work}
 use Rattle.work_crew.proofs.Tree.{explored_first, explored_more, within_last}
 use Rattle.work_crew.proofs.Counted.{counted_first, counted_more}
 use Rattle.work_crew.proofs.Ends.{work_less}

@@ -1,6 +1,6 @@
 -- Ends and doubts of the paths so far against the path count.
-use Rattle.std.proofs.Common.{◌≡◌, ◌⊎◌, ℕ, suc, zero, ◌+◌, ◌-◌, ◌*◌, ◌<◌, ◌≤◌, max, Bool, true, false, cond, List, [], ◌∷◌, ◌++◌, length, map, replicate, refl, sym, ◌∙◌, ap, subst, eqb, arith}
-use Rattle.std.specs.List.{Contains, All, starts_with, count_by, sum_by}
+use Rattle.std.proofs.Common.{◌≡◌, ℕ, ◌+◌, ◌<◌, ◌≤◌, cond, List, [], ◌∷◌, ◌++◌, length, replicate, refl, eqb, arith}
+use Rattle.std.specs.List.{All, starts_with}
 use Rattle.std.proofs.Math.Nat.{max-le}
 use Rattle.std.proofs.lemmas.List.{length-replicate}
 use Rattle.std.proofs.lemmas.List.Elements.{All-replicate}
@@ -18,7 +18,7 @@ use Rattle.path_run.specs.declared.record_of.RecordOf.{RecordOf}
 use Rattle.path_run.specs.Counting.{weight_in, weight, share, IsCounted}
 use Rattle.path_run.proofs.Somes.{All-both}
 use Rattle.path_run.proofs.Counts.{run_among}
-use Rattle.work_crew.specs.Exploring.{AreCounted, root_path}
+use Rattle.work_crew.specs.Exploring.{AreCounted}
 
 -- each list begins with the empty one
 weight_in-root : (ps : List (List ℕ)) → weight_in ps [] ≡ length ps

@@ -1,10 +1,12 @@
 pub mod Advancing
 pub mod Counted
 pub mod Ends
-pub mod Instead
+pub mod Histories
+pub mod Members
 pub mod Merges
-pub mod Recording
 pub mod Reordered
+pub mod Seats
 pub mod Tables
 pub mod TopLaws
 pub mod Tree
+pub mod Whole

@@ -1,13 +1,12 @@
 -- The outcome of a tree of paths.
-use Rattle.std.proofs.Common.{◌≡◌, ◌⊎◌, ℕ, ◌+◌, ◌*◌, ◌^◌, ◌<◌, ◌≤◌, ◌==◌, Bool, true, false, List, [], ◌∷◌, length, map, refl, sym, ◌∙◌, ap, subst, inl, inr, arith}
-use Rattle.std.specs.List.{Contains, Any, All}
+use Rattle.std.proofs.Common.{◌≡◌, ℕ, List, [], ap, subst, inl, inr, arith}
+use Rattle.std.specs.List.{Contains}
 use Rattle.std.specs.List.Sorted.{IsPermutation, IsSorted}
 use Rattle.std.proofs.lemmas.List.Elements.{All-contains, All-weaker}
 use Rattle.std.proofs.lemmas.List.Sorted.{All-permutation}
 use Rattle.ct_pairs.specs.declared.job.Job.{Job}
 use Rattle.ct_pairs.specs.declared.pair.Pair.{Pair}
 use Rattle.ct_pairs.specs.declared.found.Found.{Found}
-use Rattle.ct_pairs.specs.Pair.{IsPair}
 use Rattle.ct_pairs.specs.Sites.{HasSite}
 use Rattle.ct_pairs.specs.Covered.{sites_of}
 use Rattle.ct_pairs.proofs.ValuesLemmas.{Contains-map_only}
@@ -17,7 +16,7 @@ use Rattle.ct_entries.specs.Covering.{IsAccounted, LeavesNoNext}
 use Rattle.ct_report.specs.declared.outcome.Outcome.{Outcome}
 use Rattle.ct_report.specs.Outcomes.{place_order, IsCheckOf}
 use Rattle.work_crew.specs.declared.exploring.Explored.{Explored}
-use Rattle.work_crew.specs.Exploring.{IsExplored, IsExploring}
+use Rattle.work_crew.specs.Exploring.{IsExploring}
 use Rattle.work_crew.specs.Merging.{IsMerged}
 use Rattle.work_crew.proofs.Tree.{explored_last}
 use Rattle.work_crew.proofs.Counted.{counted_last}

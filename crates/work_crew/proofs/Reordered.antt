@@ -1,17 +1,13 @@
 -- What is known of open paths holds in any order of them.
-use Rattle.std.proofs.Common.{◌≡◌, ◌⊎◌, ℕ, ◌+◌, ◌≤◌, List, ◌++◌, length, reverse, sym, ap, subst, inl, inr, arith}
-use Rattle.std.specs.List.{Contains, Any, All, sum_by}
+use Rattle.std.proofs.Common.{◌≡◌, ℕ, ◌≤◌, List, ◌++◌, length, reverse, inl, inr, arith}
+use Rattle.std.specs.List.{Any}
 use Rattle.std.specs.List.Sorted.{IsPermutation}
 use Rattle.std.proofs.lemmas.List.Sorted.{All-permutation, Contains-permutation, sum_by-IsPermutation, IsPermutation-append_right, IsPermutation-reverse}
 use Rattle.ct_pairs.specs.declared.job.Job.{Job}
-use Rattle.ct_pairs.specs.declared.pair.Pair.{Pair}
 use Rattle.ct_pairs.specs.declared.found.Found.{Found}
-use Rattle.ct_pairs.specs.Pair.{IsPair}
 use Rattle.ct_pairs.specs.Paths.{Follows}
 use Rattle.path_tree.specs.declared.path.Path.{Path}
 use Rattle.ct_entries.specs.declared.listed.Listed.{Listed}
-use Rattle.ct_entries.specs.Covering.{IsAccounted}
-use Rattle.path_run.specs.Records.{GoesOn}
 use Rattle.path_run.specs.Counting.{share, weight}
 use Rattle.work_crew.specs.Exploring.{KnowsLeaks, IsExplored, AreCounted, work_of, work}
 

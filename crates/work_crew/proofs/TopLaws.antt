@@ -1,10 +1,10 @@
 -- The node of the path on top.
-use Rattle.std.proofs.Common.{◌≡◌, ℕ, zero, suc, ◌+◌, List, [], ◌∷◌, ◌++◌, length, reverse, get_or, Option, Some, None, IfSome, refl, sym, ◌∙◌, ap, subst, arith, append_assoc}
+use Rattle.std.proofs.Common.{◌≡◌, List, [], ◌∷◌, ◌++◌, length, reverse, get_or, Option, Some, None, IfSome, refl, sym, ◌∙◌, ap, arith, append_assoc}
 use Rattle.std.proofs.lemmas.List.{length-append, reverse-append}
 use Rattle.ct_pairs.specs.declared.job.Job.{Job}
 use Rattle.path_tree.specs.declared.path.Path.{Path}
 use Rattle.rel_step.specs.PathNodes.{PathNode, IsNode}
-use Rattle.path_run.specs.Walking.{IsFirst}
+use Rattle.path_run.specs.Walking.{IsHandedOn}
 use Rattle.work_crew.specs.Exploring.{IsTopNode}
 
 -- the last of a list
@@ -26,7 +26,7 @@ reverse_first : (first : Path) (more : List Path) → reverse (first ∷ more) �
 reverse_first first more = reverse-append (first ∷ []) more
 
 -- the node of the first kid is that of the path on top
-pub top_after : (job : Job) (rest kids : List Path) (node : Option PathNode) → IfSome node (IsFirst job kids) → IfSome node (IsTopNode job (rest ++ reverse kids))
+pub top_after : (job : Job) (rest kids : List Path) (node : Option PathNode) → IsHandedOn job kids node → IfSome node (IsTopNode job (rest ++ reverse kids))
 top_after job rest kids None h = tt
 top_after job rest kids (Some n) h = record {
   stands = h.stands;

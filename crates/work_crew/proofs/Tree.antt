@@ -1,24 +1,20 @@
 -- Records of a tree of paths account for every pair.
-use Rattle.std.proofs.Common.{◌≡◌, ◌≢◌, ◌⊎◌, ℕ, suc, zero, ◌+◌, ◌-◌, ◌<◌, ◌≤◌, List, [], ◌∷◌, ◌++◌, length, get_or, map, Option, Some, None, refl, sym, ◌∙◌, ap, subst, inl, inr, arith}
-use Rattle.std.specs.List.{Contains, Any, All}
-use Rattle.std.proofs.lemmas.Bool.{cases_lt}
+use Rattle.std.proofs.Common.{◌≡◌, ◌⊎◌, ℕ, ◌≤◌, List, [], ◌∷◌, ◌++◌, length, map, refl, sym, ◌∙◌, ap, subst, inl, inr, arith}
+use Rattle.std.specs.List.{Contains, All}
 use Rattle.std.proofs.lemmas.List.{map-append, length-append}
 use Rattle.std.proofs.lemmas.List.Elements.{All-append, All-contains, All-nil, All-cons, All-weaker, Contains-append_left, Contains-append_right, Contains-append_cases, Contains-push}
-use Rattle.rv_machine.specs.Trail.{trail}
 use Rattle.ct_pairs.specs.declared.job.Job.{Job}
 use Rattle.ct_pairs.specs.declared.pair.Pair.{Pair}
 use Rattle.ct_pairs.specs.declared.found.Found.{Found}
-use Rattle.ct_pairs.specs.Pair.{IsPair, Agrees, left_start, right_start, left_trail, right_trail}
+use Rattle.ct_pairs.specs.Pair.{IsPair, left_start, right_start}
 use Rattle.ct_pairs.specs.Paths.{Follows, nexts}
-use Rattle.ct_pairs.specs.Split.{SplitsAt}
 use Rattle.ct_pairs.specs.Sites.{HasSite}
 use Rattle.ct_pairs.specs.Covered.{sites_of}
-use Rattle.ct_pairs.proofs.TrailLemmas.{trail-none, trail-extends, FirstSplit-longer}
-use Rattle.ct_pairs.proofs.SplitLemmas.{FirstSplit-apart}
+use Rattle.ct_pairs.proofs.TrailLemmas.{trail-none}
 use Rattle.ct_pairs.proofs.ValuesLemmas.{Contains-map, Contains-map_only}
 use Rattle.path_tree.specs.declared.path.Path.{Path}
 use Rattle.ct_entries.specs.declared.listed.Listed.{Listed}
-use Rattle.ct_entries.specs.Entries.{IsTrueFound, IsTrueListed, IsListed, CoversAt}
+use Rattle.ct_entries.specs.Entries.{IsTrueFound, IsTrueListed}
 use Rattle.ct_entries.specs.Covering.{IsAccounted}
 use Rattle.path_run.specs.declared.record_of.RecordOf.{RecordOf}
 use Rattle.path_run.specs.Records.{GoesOn, IsRecorded, IsKid, IsRecord}
@@ -27,11 +23,11 @@ use Rattle.path_run.proofs.Fronts.{split_after}
 use Rattle.work_crew.specs.Exploring.{KnowsLeaks, IsExplored, root_path}
 
 -- what was accounted for stays so
-HasSite-left : (xs ys : List Found) (site step : ℕ) → HasSite (sites_of xs) site step → HasSite (sites_of (xs ++ ys)) site step
+pub HasSite-left : (xs ys : List Found) (site step : ℕ) → HasSite (sites_of xs) site step → HasSite (sites_of (xs ++ ys)) site step
 HasSite-left xs ys site step (first, there, below) =
     (first, subst (λ rows. Contains rows (site, first)) (sym (map-append _ xs ys)) (Contains-append_left (sites_of xs) (sites_of ys) (site, first) there), below)
 
-HasSite-right : (xs ys : List Found) (site step : ℕ) → HasSite (sites_of ys) site step → HasSite (sites_of (xs ++ ys)) site step
+pub HasSite-right : (xs ys : List Found) (site step : ℕ) → HasSite (sites_of ys) site step → HasSite (sites_of (xs ++ ys)) site step
 HasSite-right xs ys site step (first, there, below) =
     (first, subst (λ rows. Contains rows (site, first)) (sym (map-append _ xs ys)) (Contains-append_right (sites_of xs) (sites_of ys) (site, first) there), below)
 
@@ -95,25 +91,25 @@ explored_more job found listed waiting r e h spent = record {
         by (inr on) =
             elim (Any-cases (λ path. Follows job pair path.nexts) waiting (r.path ∷ []) on) [ inl later ↦ inr (Any-left (λ path. Follows job pair path.nexts) waiting r.kids later) | inr here ↦ let f = Any-one (λ (path : Path). Follows job pair path.nexts) r.path here in record_accounts job found listed waiting r pair knows f (h.covers pair (within_last job waiting r.path e.within) f) ]
 
+pub follows_root : (job : Job) (pair : Pair) → IsPair job pair → Follows job pair []
+follows_root job pair is = record {
+  is_pair = is;
+  agrees = trail-none job.image job.stops (left_start job pair) ∙ sym (trail-none job.image job.stops (right_start job pair));
+  goes = ap nexts (trail-none job.image job.stops (left_start job pair));
+}
+
+pub root_knows : (found : List Found) → KnowsLeaks found root_path
+root_knows found site (k, below, at) = absurd (omega (arith, below))
+
 -- at first every pair follows the root, which knows of no leak
-pub explored_first : (job : Job) → IsExplored job [] [] (record { nexts = []; leaked = [] } ∷ [])
+pub explored_first : (job : Job) → IsExplored job [] [] (root_path ∷ [])
 explored_first job = record {
-  every = λ pair is. inr (0, record { nexts = []; leaked = [] }, omega arith, refl, root pair is);
-  leaks = All-cons (KnowsLeaks []) (record { nexts = []; leaked = [] }) [] (λ site there. absurd (nowhere site there)) (All-nil (KnowsLeaks []));
+  every = λ pair is. inr (0, root_path, omega arith, refl, follows_root job pair is);
+  leaks = All-cons (KnowsLeaks []) root_path [] (root_knows []) (All-nil (KnowsLeaks []));
   found_true = All-nil (IsTrueFound job);
   listed_true = All-nil (IsTrueListed job);
   within = All-cons (λ (path : Path). length path.nexts ≤ job.bound) root_path [] (omega arith) (All-nil (λ (path : Path). length path.nexts ≤ job.bound));
 }
-  where
-    root : (pair : Pair) → IsPair job pair → Follows job pair []
-    root pair is = record {
-      is_pair = is;
-      agrees = trail-none job.image job.stops (left_start job pair) ∙ sym (trail-none job.image job.stops (right_start job pair));
-      goes = ap nexts (trail-none job.image job.stops (left_start job pair));
-    }
-
-    nowhere : (site : ℕ) → Contains [] site → ⊥
-    nowhere site (k, below, at) = absurd (omega (arith, below))
 
 -- with no open path every pair is accounted for
 pub explored_last : (job : Job) (found : List Found) (listed : List Listed) → IsExplored job found listed [] → (pair : Pair) → IsPair job pair → IsAccounted job found listed pair

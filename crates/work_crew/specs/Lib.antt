@@ -1,4 +1,6 @@
 pub mod Crew
 pub mod Exploring
 pub mod Merging
+pub mod Recorded
+pub mod Sums
 pub mod TrueRecords

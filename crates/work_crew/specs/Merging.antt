@@ -1,5 +1,5 @@
 -- How what was found becomes a table.
-use Rattle.std.specs.Prelude.{ℕ, Bool, ◌==◌, List, map, All, Contains}
+use Rattle.std.specs.Prelude.{Bool, ◌==◌, List, map, All, Contains}
 use Rattle.std.specs.Ordering.{nat_cmp, ordering_then}
 use Rattle.std.specs.declared.cmp.Ordering.{Ordering}
 use Rattle.std.specs.List.Sorted.{IsStrictlyIncreasing}

@@ -8,6 +8,7 @@ ghost use Rattle.work_crew.specs.Exploring.{IsExploring};
 use crate::crew::{MOST_WORKERS, records_of_crew};
 use crate::exploring::{Explored, explore};
 use crate::merging::{merged, put_in_order};
+use crate::together::put_together;
 use bv_passes::Kit;
 use ct_outside::Gate;
 use ct_pairs::Job;
@@ -41,14 +42,14 @@ pub fn check_alone(alloc: Global, job: &Job, kit: &mut Kit) -> Result<Outcome, A
     ensures { IfOk result (IsCheckOf job.now) }
 {
     let mut cache = Cache::new(alloc)?;
-    let explored = explore(alloc, job, &mut cache, kit, Vec::new(alloc))?;
+    let explored = explore(alloc, job, &mut cache, kit)?;
     let outcome = outcome_of(job, explored)?;
     Ok(outcome)
 }
 
 /// Checks a job by up to `MOST_WORKERS` workers, each with a kit of its own. They share a pool of control paths and a
-/// cache of settled questions, and call the gate whenever they begin a path. Then the tree is put together from their
-/// records; a path without one is run, with no passes.
+/// cache of settled questions, and call the gate whenever they begin a path. Then their records, which are those of the
+/// whole tree of paths, are put together. Where paths are left when all members have ended, the answer is want of memory.
 pub fn check_job<R: Threads + Wait + Sync, G: Gate>(
     rt: &R,
     alloc: Global,
@@ -65,9 +66,7 @@ pub fn check_job<R: Threads + Wait + Sync, G: Gate>(
     ensures { IfOk result (IsCheckOf job.now) }
 {
     let records = records_of_crew(rt, alloc, job, workers, kits, cache, gate)?;
-    let mut own = Cache::new(alloc)?;
-    let mut kit = Vec::new(alloc);
-    let explored = explore(alloc, job, &mut own, &mut kit, records)?;
+    let explored = put_together(alloc, job, records)?;
     let outcome = outcome_of(job, explored)?;
     Ok(outcome)
 }

@@ -1,15 +1,19 @@
 //! A crew of members that share a pool of paths.
-ghost use Rattle.std.specs.Prelude.{◌≤◌, All, IfOk, vec_len};
-ghost use Rattle.work_crew.specs.Crew.{HasFewPasses, HasLeft, IsMember};
+ghost use Rattle.std.specs.Prelude.{◌≡◌, ◌≤◌, [], All, IfOk, OnOk, vec_len};
+ghost use Rattle.path_tree.specs.PoolMachine.{IsLegal, ArePlaced, out_count};
+ghost use Rattle.path_pool.specs.Seats.{IsFree};
+ghost use Rattle.work_crew.specs.Crew.{HasFewPasses, IsAccount, IsMember, IsStarting, IsUnused};
+ghost use Rattle.work_crew.specs.Recorded.{AreOfSeats, AreWhole};
 ghost use Rattle.work_crew.specs.TrueRecords.{IsTrueRecord};
 
-use crate::member::{Left, Member};
+use crate::member::{Account, Member};
 use crate::working::{begin, work};
 use bv_passes::Kit;
 use ct_outside::Gate;
 use ct_pairs::Job;
 use path_pool::{PoolSeat, SharedPool};
 use path_run::RecordOf;
+use path_tree::Bag;
 use query_cache::SharedCache;
 use std::alloc::{AllocError, Global};
 use std::sync::Wait;
@@ -20,17 +24,29 @@ use std::thread::Threads;
 pub const MOST_WORKERS: u32 = 16;
 
 // A member that holds nothing and has no record.
-fn member_of(alloc: Global, job: &Job, number: u32, seat: PoolSeat, kit: Kit) -> Member
-    requires { HasFewPasses kit }
-    ensures { IsMember job.now result }
+fn member_of(
+    alloc: Global,
+    job: &Job,
+    pool: &SharedPool,
+    number: u32,
+    seat: PoolSeat,
+    kit: Kit,
+) -> Member
+    requires seat { IsUnused pool.now seat }
+    requires few { HasFewPasses kit }
+    ensures member { IsMember job.now pool.now result }
+    ensures free { IsFree result.account.seat }
 {
     let _job = job;
+    let _pool = pool;
     Member {
         number,
-        seat,
         kit,
         held: None,
-        records: Vec::new(alloc),
+        account: Account {
+            seat,
+            records: Vec::new(alloc),
+        },
     }
 }
 
@@ -38,12 +54,16 @@ fn member_of(alloc: Global, job: &Job, number: u32, seat: PoolSeat, kit: Kit) ->
 fn members_of(
     alloc: Global,
     job: &Job,
+    pool: &SharedPool,
     seats: Vec<PoolSeat>,
     kits: Vec<Kit>,
 ) -> Result<Vec<Member>, AllocError>
     requires few_seats { vec_len seats ≤ MOST_WORKERS }
+    requires enough { vec_len seats ≤ vec_len kits }
+    requires seats { All (IsUnused pool.now) seats.items }
     requires few { All HasFewPasses kits.items }
-    ensures { IfOk result (λ members. All (IsMember job.now) members.items) }
+    ensures count { IfOk result (λ members. vec_len members ≡ vec_len seats) }
+    ensures members { IfOk result (λ members. All (IsStarting job.now pool.now) members.items) }
 {
     let mut seats = seats;
     let mut kits = kits;
@@ -51,9 +71,9 @@ fn members_of(
     let mut members = Vec::new(alloc);
     'members: while let Some(seat) = seats.pop() {
         let Some(kit) = kits.pop() else {
-            break;
+            unreachable!()
         };
-        let member = member_of(alloc, job, seats.len() as u32, seat, kit);
+        let member = member_of(alloc, job, pool, seats.len() as u32, seat, kit);
         members.push(member)?;
     }
     Ok(members)
@@ -63,17 +83,22 @@ fn members_of(
 fn gathered(
     alloc: Global,
     job: &Job,
-    all: Vec<Left>,
+    pool: &SharedPool,
+    all: Vec<Account>,
 ) -> Result<(Vec<PoolSeat>, Vec<RecordOf>), AllocError>
-    requires { All (HasLeft job.now) all.items }
-    ensures { IfOk result (λ gathered. All (IsTrueRecord job.now) gathered.1.items) }
+    requires { All (IsAccount job.now pool.now) all.items }
+    ensures count { IfOk result (λ gathered. vec_len gathered.0 ≡ vec_len all) }
+    ensures own { IfOk result (λ gathered. All (λ seat. seat.pool ≡ pool.now.pool) gathered.0.items) }
+    ensures true_records { IfOk result (λ gathered. All (IsTrueRecord job.now) gathered.1.items) }
+    ensures of_seats { IfOk result (λ gathered. AreOfSeats gathered.0.items gathered.1.items) }
 {
     let _job = job;
+    let _pool = pool;
     let mut all = all;
     let mut seats = Vec::new(alloc);
     let mut records = Vec::new(alloc);
     'members: while let Some(left) = all.pop() {
-        let Left {
+        let Account {
             seat,
             records: mut more,
         } = left;
@@ -93,16 +118,17 @@ fn joined<R: Threads + Wait + Sync, G: Gate>(
     cache: &SharedCache,
     gate: &G,
     members: Vec<Member>,
-) -> Result<Vec<Left>, AllocError>
-    requires { All (IsMember job.now) members.items }
-    ensures { IfOk result (λ all. All (HasLeft job.now) all.items) }
+) -> Result<Vec<Account>, AllocError>
+    requires { All (IsMember job.now pool.now) members.items }
+    ensures count { IfOk result (λ all. vec_len all ≡ vec_len members) }
+    ensures left { IfOk result (λ all. All (IsAccount job.now pool.now) all.items) }
 {
     thread::map_vec(
         rt,
         members,
-        &|member: Member| -> Left
-            requires { IsMember job.now member }
-            ensures { HasLeft job.entry.now result }
+        &|member: Member| -> Account
+            requires { IsMember job.now pool.now member }
+            ensures { IsAccount job.entry.now pool.entry.now result }
         { work(rt, alloc, job, pool, cache, gate, member) },
     )
 }
@@ -116,9 +142,10 @@ fn worked<R: Threads + Wait + Sync, G: Gate>(
     cache: &SharedCache,
     gate: &G,
     members: Vec<Member>,
-) -> Result<Vec<Left>, AllocError>
-    requires { All (IsMember job.now) members.items }
-    ensures { IfOk result (λ all. All (HasLeft job.now) all.items) }
+) -> Result<Vec<Account>, AllocError>
+    requires { All (IsStarting job.now pool.now) members.items }
+    ensures count { IfOk result (λ all. vec_len all ≡ vec_len members) }
+    ensures left { IfOk result (λ all. All (IsAccount job.now pool.now) all.items) }
 {
     let mut members = members;
     let Some(first) = members.pop() else {
@@ -137,7 +164,23 @@ fn worked<R: Threads + Wait + Sync, G: Gate>(
     }
 }
 
-/// The records of all paths that the members walked, each a true one of its path.
+// Wants memory where a path is left.
+fn none_left(bag: &Bag) -> Result<(), AllocError>
+    ensures waiting { OnOk result (bag.now.pool.waiting ≡ []) }
+    ensures out { OnOk result (out_count bag.now.pool ≡ 0) }
+    ensures legal { IsLegal bag.now }
+    ensures placed { ArePlaced bag.now.pool }
+{
+    bag.law();
+    let counts = bag.counts();
+    if counts.waiting > 0 || counts.out > 0 {
+        return Err(AllocError);
+    }
+    Ok(())
+}
+
+/// The records of all paths of the tree from the root, each a true one of its path. The error comes too where a path is
+/// left when all members have ended.
 pub(crate) fn records_of_crew<R: Threads + Wait + Sync, G: Gate>(
     rt: &R,
     alloc: Global,
@@ -151,14 +194,16 @@ pub(crate) fn records_of_crew<R: Threads + Wait + Sync, G: Gate>(
     requires few_workers { workers ≤ MOST_WORKERS }
     requires enough { workers ≤ vec_len kits }
     requires few { All HasFewPasses kits.items }
-    ensures { IfOk result (λ records. All (IsTrueRecord job.now) records.items) }
+    ensures true_records { IfOk result (λ records. All (IsTrueRecord job.now) records.items) }
+    ensures whole { IfOk result (λ records. AreWhole records.items) }
 {
     let made = SharedPool::make(alloc, workers)?;
     let (pool, seats) = made;
-    let members = members_of(alloc, job, seats, kits)?;
+    let members = members_of(alloc, job, &pool, seats, kits)?;
     let all = worked(rt, alloc, job, &pool, cache, gate, members)?;
-    let gathered = gathered(alloc, job, all)?;
+    let gathered = gathered(alloc, job, &pool, all)?;
     let (seats, records) = gathered;
-    let _end = pool.end(seats)?;
+    let end = pool.end(seats)?;
+    none_left(&end.bag)?;
     Ok(records)
 }

@@ -1,12 +1,8 @@
 //! The exploration of the tree of control paths.
-ghost use Rattle.std.specs.Prelude.{◌≡◌, ◌≤◌, ◌<◌, ◌+◌, [], ◌∷◌, ◌++◌, length, All, IfOk, IfSome, OnOk, reverse};
+ghost use Rattle.std.specs.Prelude.{◌≡◌, ◌≤◌, ◌<◌, ◌+◌, [], ◌∷◌, ◌++◌, length, IfOk, IfSome, OnOk, reverse};
 ghost use Rattle.rel_step.specs.declared.simplifying.TheConstants.{MOST_PASSES};
-ghost use Rattle.rel_step.specs.PathNodes.{IsNode};
-ghost use Rattle.path_run.specs.Walking.{IsFirst};
-ghost use Rattle.work_crew.specs.Exploring.{IsExploring, IsTopNode, KnowsLeaks, root_path, work};
-ghost use Rattle.work_crew.specs.TrueRecords.{IsTrueRecord, IsRecordFor};
+ghost use Rattle.work_crew.specs.Exploring.{IsExploring, IsTopNode, root_path, work};
 
-use crate::records::{last_first, take_record};
 use bv_passes::Kit;
 use ct_entries::Listed;
 use ct_pairs::{Found, Job};
@@ -24,6 +20,23 @@ pub struct Explored {
     pub listed: Vec<Listed>,
     pub doubts: u128,
     pub ends: u128,
+}
+
+impl Explored {
+    /// What no record says.
+    pub(crate) fn new(alloc: Global) -> Explored
+        ensures found { result.found.items ≡ [] }
+        ensures listed { result.listed.items ≡ [] }
+        ensures doubts { result.doubts ≡ 0 }
+        ensures ends { result.ends ≡ 0 }
+    {
+        Explored {
+            found: Vec::new(alloc),
+            listed: Vec::new(alloc),
+            doubts: 0,
+            ends: 0,
+        }
+    }
 }
 
 // The sum; a check that would count beyond 128 bits ends as one that wants memory.
@@ -58,8 +71,8 @@ fn open(waiting: &mut Vec<Path>, kids: Row<Path>) -> Result<(), AllocError>
     Ok(())
 }
 
-// Adds what a record says.
-fn add(explored: &mut Explored, made: RecordOf) -> Result<Row<Path>, AllocError>
+/// Adds what a record says, and gives the kids of its path.
+pub(crate) fn add(explored: &mut Explored, made: RecordOf) -> Result<Row<Path>, AllocError>
     ensures found { OnOk result (explored.new.found.items ≡ explored.old.found.items ++ made.found) }
     ensures listed { OnOk result (explored.new.listed.items ≡ explored.old.listed.items ++ made.listed) }
     ensures doubts { OnOk result (explored.new.doubts ≡ explored.old.doubts + made.doubts) }
@@ -81,35 +94,6 @@ fn add(explored: &mut Explored, made: RecordOf) -> Result<Row<Path>, AllocError>
     Ok(kids)
 }
 
-// The record of an open path: the one that was made before, and else the path is run.
-fn record_for(
-    alloc: Global,
-    job: &Job,
-    cache: &mut Cache,
-    kit: &mut Kit,
-    found: &[Found],
-    records: &mut Vec<RecordOf>,
-    node: Option<Node>,
-    path: Path,
-) -> Result<(RecordOf, Option<Node>), AllocError>
-    requires knows { KnowsLeaks found.now path }
-    requires node { IfSome node (λ n. IsNode job.now n × (n.path ≡ path.nexts)) }
-    requires few { length kit.old.items ≤ MOST_PASSES }
-    requires records { All (IsTrueRecord job.now) records.old.items }
-    ensures made { IfOk result (λ run. IsRecordFor job.now found.now path run.0) }
-    ensures node { IfOk result (λ run. IfSome run.1 (IsFirst job.now run.0.kids)) }
-    ensures passes { length kit.new.items ≡ length kit.old.items }
-    ensures records { All (IsTrueRecord job.now) records.new.items }
-{
-    match take_record(alloc, job, found, records, path) {
-        Ok(made) => Ok((made, None)),
-        Err(path) => {
-            let run = run_path(alloc, job, node, path, cache, kit)?;
-            Ok(run)
-        }
-    }
-}
-
 // Puts the record of one open path to the others, and opens its kids. The node is the path's, and then the one of the
 // path on top.
 fn advance(
@@ -119,60 +103,38 @@ fn advance(
     kit: &mut Kit,
     explored: &mut Explored,
     waiting: &mut Vec<Path>,
-    records: &mut Vec<RecordOf>,
     node: Option<Node>,
     path: Path,
 ) -> Result<Option<Node>, AllocError>
     requires exploring { IsExploring job.now explored.old (waiting.old.items ++ path ∷ []) }
     requires node { IfSome node (IsTopNode job.now (waiting.old.items ++ path ∷ [])) }
     requires few { length kit.old.items ≤ MOST_PASSES }
-    requires records { All (IsTrueRecord job.now) records.old.items }
     ensures exploring { OnOk result (IsExploring job.now explored.new waiting.new.items) }
     ensures less { OnOk result (work job.now.bound waiting.new.items < work job.now.bound (waiting.old.items ++ path ∷ [])) }
     ensures node { IfOk result (λ top. IfSome top (IsTopNode job.now waiting.new.items)) }
     ensures passes { length kit.new.items ≡ length kit.old.items }
-    ensures records { All (IsTrueRecord job.now) records.new.items }
 {
-    let run = record_for(
-        alloc,
-        job,
-        cache,
-        kit,
-        explored.found.as_slice(),
-        records,
-        node,
-        path,
-    )?;
+    let run = run_path(alloc, job, node, path, cache, kit)?;
     let (record, first) = run;
     let kids = add(explored, record)?;
     open(waiting, kids)?;
     Ok(first)
 }
 
-/// What the records of all control paths of a job say together, one record a path, depth first, the kids of a path in
-/// ascending order of their next address. A record is one of those that are handed in, where there is one that rests on
-/// sites found before, and else the path is run: from the node of the path that was run before where it is that one's
-/// first kid, and else replayed. Of the paths that wait only the nexts and the sites found before are kept, four bytes
-/// each.
+/// What the records of all control paths of a job say together, depth first, the kids of a path in ascending order of
+/// their next address. A path is run from the node of the path that was run before where it is that one's first kid, and
+/// else replayed. Of the paths that wait only the nexts and the sites found before are kept, four bytes each.
 pub(crate) fn explore(
     alloc: Global,
     job: &Job,
     cache: &mut Cache,
     kit: &mut Kit,
-    records: Vec<RecordOf>,
 ) -> Result<Explored, AllocError>
     requires few { length kit.old.items ≤ MOST_PASSES }
-    requires records { All (IsTrueRecord job.now) records.items }
     ensures exploring { IfOk result (λ explored. IsExploring job.now explored []) }
     ensures passes { length kit.new.items ≡ length kit.old.items }
 {
-    let mut explored = Explored {
-        found: Vec::new(alloc),
-        listed: Vec::new(alloc),
-        doubts: 0,
-        ends: 0,
-    };
-    let mut made = last_first(job, records)?;
+    let mut explored = Explored::new(alloc);
     let mut waiting = root(alloc)?;
     let mut node = None;
     'paths: while let Some(path) = waiting.pop() {
@@ -183,7 +145,6 @@ pub(crate) fn explore(
             kit,
             &mut explored,
             &mut waiting,
-            &mut made,
             node,
             path,
         )?;

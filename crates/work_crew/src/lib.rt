@@ -6,8 +6,8 @@ mod crew;
 mod exploring;
 mod member;
 mod merging;
-mod records;
 mod telling;
+mod together;
 mod working;
 
 pub use checking::{check_alone, check_job};

@@ -20,11 +20,19 @@ pub(crate) struct Held {
     pub start: Start,
 }
 
-/// The kids of a path, for the pool, and the start of the first, where there is one.
+/// The record of a path, its kids for the pool, and the start of the first, where there is one.
 #[derive(Drop)]
 pub(crate) struct Forked {
+    pub record: RecordOf,
     pub kids: Vec<Path>,
     pub first: Option<Start>,
+}
+
+/// A seat, with a record of each path that it said is done.
+#[derive(Drop)]
+pub(crate) struct Account {
+    pub seat: PoolSeat,
+    pub records: Vec<RecordOf>,
 }
 
 /// A member of a crew.
@@ -32,16 +40,8 @@ pub(crate) struct Forked {
 pub(crate) struct Member {
     /// From 0 on, as the seats.
     pub number: u32,
-    pub seat: PoolSeat,
     pub kit: Kit,
     /// The path that it is started with.
     pub held: Option<Held>,
-    pub records: Vec<RecordOf>,
-}
-
-/// What a member leaves.
-#[derive(Drop)]
-pub(crate) struct Left {
-    pub seat: PoolSeat,
-    pub records: Vec<RecordOf>,
+    pub account: Account,
 }

@@ -1,11 +1,12 @@
 //! The work of a member of a crew.
-ghost use Rattle.std.specs.Prelude.{◌≡◌, ◌≤◌, length, All, IfOk, IfSome, MatchResult};
+ghost use Rattle.std.specs.Prelude.{◌≡◌, ◌≤◌, ◌<◌, length, All, Some, slice_get, IfOk, IfSome, MatchResult, vec_len, vec_capacity};
 ghost use Rattle.rel_step.specs.declared.simplifying.TheConstants.{MOST_PASSES};
+ghost use Rattle.path_pool.specs.Seats.{IsFree, IsHolding};
 ghost use Rattle.path_run.specs.Walking.{IsHandedOn};
-ghost use Rattle.work_crew.specs.Crew.{IsStart, IsFirstStart, IsHeld, IsMember, HasLeft};
+ghost use Rattle.work_crew.specs.Crew.{IsStart, IsFirstStart, IsForked, IsAccount, IsHeld, GoesOnWith, IsMember};
 ghost use Rattle.work_crew.specs.TrueRecords.{IsTrueRecord};
 
-use crate::member::{Forked, Held, Left, Member, Start};
+use crate::member::{Account, Forked, Held, Member, Start};
 use crate::telling::tell;
 use bv_passes::Kit;
 use ct_outside::Gate;
@@ -29,6 +30,7 @@ fn walk<R: Wait>(
 ) -> Result<(RecordOf, Option<Node>), AllocError>
     requires start { IsStart job.now start }
     requires few { length kit.old.items ≤ MOST_PASSES }
+    ensures path { IfOk result (λ run. run.0.path ≡ start.path) }
     ensures true_record { IfOk result (λ run. IsTrueRecord job.now run.0) }
     ensures handed { IfOk result (λ run. IsHandedOn job.now run.0.kids run.1) }
     ensures passes { length kit.new.items ≡ length kit.old.items }
@@ -85,53 +87,79 @@ fn first_start(
     Ok(Some(Start { path, node }))
 }
 
-// Walks a path, and puts its record to the others.
+// Walks a path, and copies its kids.
 fn fork<R: Wait>(
     rt: &R,
     alloc: Global,
     job: &Job,
     cache: &SharedCache,
     kit: &mut Kit,
-    records: &mut Vec<RecordOf>,
     start: Start,
 ) -> Result<Forked, AllocError>
     requires start { IsStart job.now start }
     requires few { length kit.old.items ≤ MOST_PASSES }
-    requires records { All (IsTrueRecord job.now) records.old.items }
-    ensures first { IfOk result (λ forked. IsFirstStart job.now forked.kids.items forked.first) }
+    ensures forked { IfOk result (IsForked job.now start.path) }
     ensures passes { length kit.new.items ≡ length kit.old.items }
-    ensures records { All (IsTrueRecord job.now) records.new.items }
 {
     let run = walk(rt, alloc, job, cache, kit, start)?;
     let (record, node) = run;
     let kids = copies_of(alloc, record.kids.as_slice())?;
     let first = first_start(alloc, job, record.kids.as_slice(), node)?;
-    records.push(record)?;
-    Ok(Forked { kids, first })
+    Ok(Forked {
+        record,
+        kids,
+        first,
+    })
 }
 
-// Tells the pool what became of a path. The first of several kids stays with the member.
+// Gives a path back to the pool.
+fn give_back<R: Wait>(rt: &R, job: &Job, pool: &SharedPool, account: &mut Account, number: u64)
+    requires holds { IsHolding account.old.seat number }
+    requires account { IsAccount job.now pool.now account.old }
+    ensures account { IsAccount job.now pool.now account.new }
+{
+    let _job = job;
+    let _given = pool.give_back(rt, &mut account.seat, number);
+}
+
+// Tells the pool that a path is done, and keeps its record, for which there is room. The first of several kids stays
+// with the member. On want of memory the path is given back.
 fn hand_in<R: Wait>(
     rt: &R,
     job: &Job,
     pool: &SharedPool,
-    seat: &mut PoolSeat,
+    account: &mut Account,
     number: u64,
     forked: Forked,
 ) -> Result<Option<Held>, AllocError>
-    requires { IsFirstStart job.now forked.kids.items forked.first }
-    ensures { IfOk result (λ held. IfSome held (IsHeld job.now)) }
+    requires holds { IsHolding account.old.seat number }
+    requires path { slice_get account.old.seat.seen.pool.paths number ≡ Some forked.record.path }
+    requires forked { IsForked job.now forked.record.path forked }
+    requires account { IsAccount job.now pool.now account.old }
+    requires room { vec_len account.old.records < vec_capacity account.old.records }
+    ensures account { IsAccount job.now pool.now account.new }
+    ensures next { IfOk result (GoesOnWith job.now account.new.seat) }
 {
-    let _job = job;
-    let Forked { kids, first } = forked;
+    let Forked {
+        record,
+        kids,
+        first,
+    } = forked;
     match first {
         None => {
-            let _closed = pool.close(rt, seat, number);
+            let _closed = pool.close(rt, &mut account.seat, number);
+            account.records.push_reserved(record);
             Ok(None)
         }
-        Some(start) => match pool.split(rt, seat, number, kids) {
-            Ok(number) => Ok(Some(Held { number, start })),
-            Err(_) => Err(AllocError),
+        Some(start) => match pool.split(rt, &mut account.seat, number, kids) {
+            Ok(number) => {
+                account.records.push_reserved(record);
+                Ok(Some(Held { number, start }))
+            }
+            Err(_) => {
+                give_back(rt, job, pool, account, number);
+                Err(AllocError)
+            }
         },
     }
 }
@@ -143,31 +171,28 @@ fn work_off<R: Wait>(
     job: &Job,
     pool: &SharedPool,
     cache: &SharedCache,
-    seat: &mut PoolSeat,
     kit: &mut Kit,
-    records: &mut Vec<RecordOf>,
+    account: &mut Account,
     held: Held,
 ) -> Result<Option<Held>, AllocError>
-    requires held { IsHeld job.now held }
+    requires held { IsHeld job.now account.old.seat held }
     requires few { length kit.old.items ≤ MOST_PASSES }
-    requires records { All (IsTrueRecord job.now) records.old.items }
-    ensures held { IfOk result (λ next. IfSome next (IsHeld job.now)) }
+    requires account { IsAccount job.now pool.now account.old }
+    ensures next { IfOk result (GoesOnWith job.now account.new.seat) }
     ensures passes { length kit.new.items ≡ length kit.old.items }
-    ensures records { All (IsTrueRecord job.now) records.new.items }
+    ensures account { IsAccount job.now pool.now account.new }
 {
     let Held { number, start } = held;
-    match fork(rt, alloc, job, cache, kit, records, start) {
+    if let Err(_) = account.records.reserve(1) {
+        give_back(rt, job, pool, account, number);
+        return Err(AllocError);
+    }
+    match fork(rt, alloc, job, cache, kit, start) {
         Err(error) => {
-            let _given = pool.give_back(rt, seat, number);
+            give_back(rt, job, pool, account, number);
             Err(error)
         }
-        Ok(forked) => match hand_in(rt, job, pool, seat, number, forked) {
-            Ok(next) => Ok(next),
-            Err(error) => {
-                let _given = pool.give_back(rt, seat, number);
-                Err(error)
-            }
-        },
+        Ok(forked) => hand_in(rt, job, pool, account, number, forked),
     }
 }
 
@@ -177,12 +202,15 @@ fn take<R: Wait>(
     alloc: Global,
     job: &Job,
     pool: &SharedPool,
-    seat: &mut PoolSeat,
+    account: &mut Account,
 ) -> Result<Option<Held>, AllocError>
-    ensures { IfOk result (λ held. IfSome held (IsHeld job.now)) }
+    requires free { IsFree account.old.seat }
+    requires account { IsAccount job.now pool.now account.old }
+    ensures account { IsAccount job.now pool.now account.new }
+    ensures held { IfOk result (λ held. IfSome held (IsHeld job.now account.new.seat)) }
 {
     let _job = job;
-    match pool.take(rt, alloc, seat)? {
+    match pool.take(rt, alloc, &mut account.seat)? {
         Pulled::Path { number, path } => Ok(Some(Held {
             number,
             start: Start { path, node: None },
@@ -199,16 +227,18 @@ fn next_path<R: Wait, G: Gate>(
     pool: &SharedPool,
     gate: &G,
     number: u32,
-    seat: &mut PoolSeat,
+    account: &mut Account,
     held: Option<Held>,
 ) -> Result<Option<Held>, AllocError>
-    requires { IfSome held (IsHeld job.now) }
-    ensures { IfOk result (λ next. IfSome next (IsHeld job.now)) }
+    requires held { GoesOnWith job.now account.old.seat held }
+    requires account { IsAccount job.now pool.now account.old }
+    ensures account { IsAccount job.now pool.now account.new }
+    ensures next { IfOk result (λ next. IfSome next (IsHeld job.now account.new.seat)) }
 {
     match held {
         Some(held) => Ok(Some(held)),
         None => {
-            let taken = take(rt, alloc, job, pool, seat)?;
+            let taken = take(rt, alloc, job, pool, account)?;
             if taken.is_some() {
                 gate.pass(number);
             }
@@ -226,40 +256,38 @@ pub(crate) fn begin<R: Wait>(
     pool: &SharedPool,
     cache: &SharedCache,
     member: Member,
-) -> Result<Member, Left>
-    requires { IsMember job.now member }
-    ensures { MatchResult result (IsMember job.now) (HasLeft job.now) }
+) -> Result<Member, Account>
+    requires member { IsMember job.now pool.now member }
+    requires free { IsFree member.account.seat }
+    ensures { MatchResult result (IsMember job.now pool.now) (IsAccount job.now pool.now) }
 {
     let Member {
         number,
-        mut seat,
         mut kit,
         held: _,
-        mut records,
+        mut account,
     } = member;
-    match take(rt, alloc, job, pool, &mut seat) {
+    match take(rt, alloc, job, pool, &mut account) {
         Ok(Some(held)) => match work_off(
             rt,
             alloc,
             job,
             pool,
             cache,
-            &mut seat,
             &mut kit,
-            &mut records,
+            &mut account,
             held,
         ) {
             Ok(held) => Ok(Member {
                 number,
-                seat,
                 kit,
                 held,
-                records,
+                account,
             }),
-            Err(_) => Err(Left { seat, records }),
+            Err(_) => Err(account),
         },
-        Ok(None) => Err(Left { seat, records }),
-        Err(_) => Err(Left { seat, records }),
+        Ok(None) => Err(account),
+        Err(_) => Err(account),
     }
 }
 
@@ -273,38 +301,28 @@ pub(crate) fn work<R: Wait, G: Gate>(
     cache: &SharedCache,
     gate: &G,
     member: Member,
-) -> Left
-    requires { IsMember job.now member }
-    ensures { HasLeft job.now result }
+) -> Account
+    requires { IsMember job.now pool.now member }
+    ensures { IsAccount job.now pool.now result }
 {
     let Member {
         number,
-        mut seat,
         mut kit,
         mut held,
-        mut records,
+        mut account,
     } = member;
     if held.is_some() {
         gate.pass(number);
     }
     'paths: for _ in rt.forever() {
-        let Ok(Some(next)) = next_path(rt, alloc, job, pool, gate, number, &mut seat, held) else {
+        let Ok(Some(next)) = next_path(rt, alloc, job, pool, gate, number, &mut account, held)
+        else {
             break;
         };
-        let Ok(kid) = work_off(
-            rt,
-            alloc,
-            job,
-            pool,
-            cache,
-            &mut seat,
-            &mut kit,
-            &mut records,
-            next,
-        ) else {
+        let Ok(kid) = work_off(rt, alloc, job, pool, cache, &mut kit, &mut account, next) else {
             break;
         };
         held = kid;
     }
-    Left { seat, records }
+    account
 }

@@ -1,7 +1,5 @@
 use Rattle.std.proofs.Common.{◌≡◌, length, IfSome}
-use Rattle.std.specs.List.{All}
 use Rattle.work_crew.specs.Exploring.{IsExploring, IsTopNode, work}
-use Rattle.work_crew.specs.TrueRecords.{IsTrueRecord}
 use Rattle.work_crew.proofs.exploring.explore.Given as goal
 
 abbrev pub invariant-paths : goal.invariant-paths
@@ -9,7 +7,6 @@ invariant-paths g l = record {
   exploring : IsExploring l.job l.explored l.waiting.items;
   node : IfSome l.node (IsTopNode l.job l.waiting.items);
   passes : length l.kit.items ≡ length l.initial.kit.items;
-  records : All (IsTrueRecord l.job) l.made.items;
 }
 
 abbrev pub decreases-paths : goal.decreases-paths

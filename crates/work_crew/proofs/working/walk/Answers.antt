@@ -1,4 +1,4 @@
-use Rattle.std.proofs.Common.{◌∙◌, subst, arith}
+use Rattle.std.proofs.Common.{◌∙◌, subst}
 use Rattle.path_run.specs.Walking.{IsCome, doubts_of, turns_left}
 use Rattle.path_run.proofs.RunLaws.{told_right, done_places}
 use Rattle.work_crew.proofs.working.walk.Goals as goal
@@ -20,6 +20,11 @@ returns-in-Done-clause-true_record g c =
       listed = done_places c.args.job.now c.loop-record.walk.course c.in-Done.record c.in-Done.node d.0 d.1 c.loop-record.invariant.logs;
     }
 
+pub returns-in-Done-clause-path : goal.returns-in-Done-clause-path
+returns-in-Done-clause-path g c =
+    let d = subst (IsCome c.args.job.now c.loop-record.walk.course (doubts_of c.loop-record.walk) (turns_left c.args.job.now c.loop-record.walk)) c.in-Done.is c.in_ok-record.ensures.come in
+    d.0.of_path ∙ c.loop-record.invariant.path
+
 pub loop-record-preserved : goal.loop-record-preserved
 loop-record-preserved g c =
     let i = c.loop-record.invariant in
@@ -29,4 +34,5 @@ loop-record-preserved g c =
       idle = c.in_ok-walk-in-Ask.ensures.idle;
       logs = c.in_ok-walk-in-Ask.ensures.logs c.args.job.now.budget (t.2 c.args.job.now.budget i.logs) c.in_ok-told-in-Ask.ensures.spent;
       passes = c.go.ensures.passes ∙ i.passes;
+      path = c.in_ok-walk-in-Ask.ensures.later.same_path ∙ (t.0.same_path ∙ i.path);
     }

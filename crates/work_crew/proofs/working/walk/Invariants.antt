@@ -1,6 +1,6 @@
 use Rattle.std.proofs.Common.{◌≡◌, length}
 use Rattle.path_run.specs.Telling.{HaveSpentLogs}
-use Rattle.path_run.specs.Walking.{IsWalk, IsIdle, listed_of, turns_left}
+use Rattle.path_run.specs.Walking.{IsWalk, IsIdle, path_of, listed_of, turns_left}
 use Rattle.work_crew.proofs.working.walk.Given as goal
 
 abbrev pub invariant-loop-record : goal.invariant-loop-record
@@ -9,6 +9,7 @@ invariant-loop-record g l = record {
   idle : IsIdle l.walk;
   logs : HaveSpentLogs l.job.budget (listed_of l.walk);
   passes : length l.kit.items ≡ length l.fn.kit.items;
+  path : path_of l.walk ≡ l.fn.start.path;
 }
 
 abbrev pub decreases-loop-record : goal.decreases-loop-record
