@@ -2,7 +2,9 @@
 #![tactic(auto)]
 
 mod commands;
+mod damage;
 mod faults;
+mod passes;
 mod sharing;
 
 ghost use Rattle.std.specs.Prelude.{◌≤◌, length, All, IfOk};
@@ -12,7 +14,7 @@ ghost use Rattle.rel_step.specs.declared.simplifying.TheConstants.{MOST_PASSES};
 use bv_passes::Kit;
 use ct_lines::MOST_WORKERS;
 use ct_main::{Finished, ctrel, tell};
-use ct_outside::{OpenGate, RealShelf, RealSink};
+use ct_outside::{OpenGate, RealShelf, RealSink, read_all};
 use std::alloc::{AllocError, Global};
 use std::io;
 use std::process::ExitCode;
@@ -26,6 +28,14 @@ fn words_of(alloc: Global, command: &str) -> Result<Vec<String>, AllocError> {
         words.push(String::from_str(alloc, word)?)?;
     }
     Ok(words)
+}
+
+/// The bytes of a file, none where it can't be read.
+fn bytes_of(rt: &HostRuntime, name: &str) -> Result<Vec<u8>, AllocError> {
+    let alloc = rt.alloc();
+    let mut shelf = RealShelf::new(alloc, rt)?;
+    let bytes = read_all(alloc, &mut shelf, String::from_str(alloc, name)?);
+    Ok(bytes.unwrap_or(Vec::new(alloc)))
 }
 
 /// A kit without passes for each worker that there may be.
@@ -46,12 +56,18 @@ fn show_end(rt: &HostRuntime, finished: &Finished) -> io::Result<()> {
     println!(rt; "status {}", finished.status)
 }
 
-/// Runs a command over the real files and the real output, without passes.
-fn run<R: Threads + Wait + Sync>(rt: &HostRuntime, threads: &R, command: &str) -> io::Result<()> {
-    println!(rt; "$ ctrel {command}")?;
+/// Runs a command over the real files and the real output.
+fn run_with<R: Threads + Wait + Sync>(
+    rt: &HostRuntime,
+    threads: &R,
+    command: &str,
+    kits: Vec<Kit>,
+) -> io::Result<()>
+    requires enough { MOST_WORKERS ≤ length kits.items }
+    requires few { All (λ kit. length kit.items ≤ MOST_PASSES) kits.items }
+{
     let words = words_of(rt.alloc(), command)?;
     let mut shelf = RealShelf::new(rt.alloc(), rt)?;
-    let kits = without_passes(rt.alloc())?;
     let finished = ctrel(
         threads,
         rt.alloc(),
@@ -64,6 +80,13 @@ fn run<R: Threads + Wait + Sync>(rt: &HostRuntime, threads: &R, command: &str) -
     show_end(rt, &finished)
 }
 
+/// Runs a command over the real files and the real output, without passes.
+fn run<R: Threads + Wait + Sync>(rt: &HostRuntime, threads: &R, command: &str) -> io::Result<()> {
+    println!(rt; "$ ctrel {command}")?;
+    let kits = without_passes(rt.alloc())?;
+    run_with(rt, threads, command, kits)
+}
+
 /// Runs all commands.
 fn run_all<R: Threads + Wait + Sync>(rt: &HostRuntime, threads: &R) -> io::Result<()> {
     for command in commands::WRITTEN {
@@ -72,8 +95,10 @@ fn run_all<R: Threads + Wait + Sync>(rt: &HostRuntime, threads: &R) -> io::Resul
     for command in commands::REFUSED {
         run(rt, threads, command)?;
     }
+    damage::run_all(rt, threads)?;
     faults::run_all(rt, threads)?;
-    sharing::run_all(rt, threads)
+    sharing::run_all(rt, threads)?;
+    passes::run_all(rt, threads)
 }
 
 fn main(rt: HostRuntime) -> ExitCode {

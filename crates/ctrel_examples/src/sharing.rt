@@ -40,7 +40,7 @@ fn meet<R: Threads + Wait + Sync>(rt: &HostRuntime, threads: &R) -> io::Result<(
 }
 
 /// The job of the command.
-fn prepared(rt: &HostRuntime) -> Result<Job, Refusal> {
+pub(crate) fn prepared(rt: &HostRuntime) -> Result<Job, Refusal> {
     let alloc = rt.alloc();
     let words = words_of(alloc, COMMAND)?;
     let command = read_words(alloc, words.as_slice())?;
